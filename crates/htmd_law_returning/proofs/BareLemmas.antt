@@ -1,7 +1,8 @@
 -- Trees of texts and elements without attributes stay as they are: no link is limited, and there are no anchors.
-use Rattle.std.proofs.Common.{◌≡◌, ℕ, suc, ◌+◌, Bool, true, false, not, ◌&&◌, ◌||◌, cond, List, [], ◌∷◌, ◌++◌}
+use Rattle.std.proofs.Common.{◌≡◌, ℕ, suc, ◌+◌, Bool, true, false, not, ◌&&◌, ◌||◌, cond, List}
+use Rattle.std.proofs.Common.{[], ◌∷◌}
 use Rattle.std.proofs.Common.{refl, sym, ap, ◌∙◌, filter, Option, Some, None}
-use Rattle.std.specs.Prelude.{is_some, nat_lt, codes}
+use Rattle.std.specs.Prelude.{is_some, nat_lt}
 use Rattle.std.specs.Option.{unwrap_or}
 use Rattle.std.specs.Str.{chars}
 use Rattle.std.proofs.lemmas.Bool.{and_parts}
@@ -14,9 +15,10 @@ use Rattle.htmd_shown.specs.SimpleTrees.{Simple, text, image, formula, embedded,
 use Rattle.htmd_shown.specs.Spaces.{is_blank_text}
 use Rattle.htmd_document_of_tree.specs.declared.anchors.Anchors.{Anchors}
 use Rattle.htmd_document_of_tree.specs.declared.anchors.Anchors.TheVariants as which
-use Rattle.htmd_document_of_tree.specs.Anchors.{Placing, placing_after, placing_after_all, placed, all_placed, after_leaf}
+use Rattle.htmd_document_of_tree.specs.Anchors.{Placing, placing_after, placing_after_all, placed, all_placed}
+use Rattle.htmd_document_of_tree.specs.Anchors.{after_leaf}
 use Rattle.htmd_document_of_tree.specs.Anchors.{placed_before, preceded, last_anchors, targets_by, anchored}
-use Rattle.htmd_document_of_tree.specs.FirstPieces.{cut_all, pieced, pieced_all}
+use Rattle.htmd_document_of_tree.specs.FirstPieces.{pieced, pieced_all}
 use Rattle.htmd_document_of_tree.specs.Leadings.{all_leadings, is_led_to, is_linked_to}
 use Rattle.htmd_document_of_tree.specs.Limits.{is_carrying, size, cost, paid, left_after, emptied, within, all_within}
 use Rattle.htmd_document_of_tree.specs.Limits.{budget, limited}
@@ -109,7 +111,8 @@ mutual
   bare-pieced (anchor id) h = refl
   bare-pieced (element id role facts attributes content) h =
       let e = bare-element role attributes content h in
-      rw (no-link (is_link role) _ e.bears_none) (ap (element id role facts attributes) (bare-all-pieced content e.inside))
+      rw (no-link (is_link role) _ e.bears_none)
+      (ap (element id role facts attributes) (bare-all-pieced content e.inside))
 
   pub bare-all-pieced : (ts : Simples) → are_bare ts ≡ true → pieced_all ts ≡ ts
   bare-all-pieced none h = refl
@@ -143,7 +146,8 @@ mutual
   none-inside counts whole n (element id role facts attributes content) h =
       none-among counts (whole_in whole n role) n content (bare-element role attributes content h).inside
 
-  none-own : (counts : List ℕ → Bool) (n : ℕ) (t : Simple) → is_bare t ≡ true → own_targets counts n t ≡ []
+  none-own : (counts : List ℕ → Bool) (n : ℕ) (t : Simple) → is_bare t ≡ true
+      → own_targets counts n t ≡ []
   none-own counts n (text s) h = refl
   none-own counts n (image address attributes) h = false-true h
   none-own counts n (formula tex is_alone attributes) h = false-true h
@@ -168,7 +172,8 @@ mutual
 no-targets : (counts : List ℕ → Bool) (ts : Simples) → are_bare ts ≡ true → all_targets counts ts ≡ []
 no-targets counts ts h = ap firsts (none-among counts None 0 ts h)
 
-no-targets-by : (w : Anchors) (is_rich : Bool) (ts : Simples) → are_bare ts ≡ true → targets_by w is_rich ts ≡ []
+no-targets-by : (w : Anchors) (is_rich : Bool) (ts : Simples) → are_bare ts ≡ true
+    → targets_by w is_rich ts ≡ []
 no-targets-by which.Linked is_rich ts h =
     ap (filter (λ (t : Target). is_led_to (all_leadings is_rich ts) t.value t.seen))
     (no-targets (is_linked_to (all_leadings is_rich ts)) ts h)

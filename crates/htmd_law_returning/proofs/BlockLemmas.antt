@@ -1,7 +1,7 @@
 -- Each block of what is simple comes back, by its structure.
-use Rattle.std.proofs.Common.{◌≡◌, ℕ, suc, ◌+◌, ◌≤◌, max, Bool, true, false, ◌&&◌, List, [], ◌∷◌, ◌++◌, refl, sym, ap, ◌∙◌}
+use Rattle.std.proofs.Common.{◌≡◌, ℕ, suc, ◌+◌, ◌≤◌, max, Bool, true, false, ◌&&◌, List, []}
+use Rattle.std.proofs.Common.{◌∷◌, ◌++◌, refl, sym, ap, ◌∙◌}
 use Rattle.std.proofs.Common.{subst, arith, codes, Option, Some, None}
-use Rattle.std.specs.Prelude.{nat_le}
 use Rattle.std.proofs.Math.Nat.{le-max_left, le-max_right}
 use Rattle.std.proofs.lemmas.Bool.{and_parts}
 use Rattle.std.proofs.lemmas.Bool.Decides.{nat_tests}
@@ -16,28 +16,28 @@ use Rattle.htmd_document.specs.DocumentLimits.{most_nested}
 use Rattle.htmd_document.specs.Documents as documents
 use Rattle.htmd_document.specs.NormalDocuments.{is_normal_block, are_normal_blocks, depth_of, depth_among}
 use Rattle.htmd_document.specs.TightItems.{is_filled}
-use Rattle.htmd_flow.specs.Nesting.{one_inline}
 use Rattle.htmd_flow.specs.Flows as flow
 use Rattle.htmd_flow.specs.Paragraphs.{Writing, fed, fed_all}
-use Rattle.htmd_flow.specs.Parts.{Part, run, edge, whole}
+use Rattle.htmd_flow.specs.Parts.{Part, run}
 use Rattle.htmd_shown.specs.declared.role.Role.TheVariants as role
 use Rattle.htmd_shown.specs.Facts.{made}
 use Rattle.htmd_shown.specs.ShownTexts.{shown_text}
 use Rattle.htmd_shown.specs.SimpleTrees.{Simple, Simples, text, none, more}
-use Rattle.htmd_commonmark_reading.specs.Markup.{Inlines, Block, paragraph, heading, code_block, quote, thematic_break}
+use Rattle.htmd_commonmark_reading.specs.Markup.{Block, paragraph, heading, code_block, quote, thematic_break}
 use Rattle.htmd_commonmark_reading.specs.Markup.{list, table, html_block, Blocks, no_blocks, block, plain_text}
 use Rattle.htmd_commonmark_reading.specs.SeenMarkup.{is_text_alone}
 use Rattle.htmd_law_rendering.specs.RenderedTrees.{line_end, heading_name, inlines_trees, blocks_trees}
-use Rattle.htmd_law_returning.specs.SimpleReadings.{is_simple, are_simple, is_simple_line}
-use Rattle.htmd_law_returning.proofs.BareLemmas.{is_bare, are_bare}
-use Rattle.htmd_law_returning.proofs.FlowLemmas.{parts_of, IsReady, line-ready, clean-ready, whole-fed, all-done}
-use Rattle.htmd_law_returning.proofs.FlowLemmas.{words-fed, apart-fed, text-parts, paragraph-parts, break-parts}
+use Rattle.htmd_law_returning.specs.SimpleReadings.{is_simple, are_simple}
+use Rattle.htmd_law_returning.proofs.BareLemmas.{are_bare}
+use Rattle.htmd_law_returning.proofs.FlowLemmas.{parts_of, IsReady, line-ready, all-done}
+use Rattle.htmd_law_returning.proofs.FlowLemmas.{text-parts}
 use Rattle.htmd_law_returning.proofs.FlowLemmas.{none-parts, GivesBlock, paragraph-gives, heading-gives, break-gives}
 use Rattle.htmd_law_returning.proofs.FlowLemmas.{quote-gives}
 use Rattle.htmd_law_returning.proofs.PageLemmas.{from-none, from-text, from-element, IsFresh, fresh-first, fresh-next}
 use Rattle.htmd_law_returning.proofs.PageLemmas.{shown_of, text-shown, line-shown, paragraph-shown, quote-shown}
-use Rattle.htmd_law_returning.proofs.PageLemmas.{break-shown, none-shown, shown_in_heading, words-in-heading, heading-shown}
-use Rattle.htmd_law_returning.proofs.SeenLemmas.{line_of, letters-tree, document_of, documents_of}
+use Rattle.htmd_law_returning.proofs.PageLemmas.{break-shown, none-shown, shown_in_heading, words-in-heading}
+use Rattle.htmd_law_returning.proofs.PageLemmas.{heading-shown}
+use Rattle.htmd_law_returning.proofs.SeenLemmas.{letters-tree, document_of, documents_of}
 use Rattle.htmd_law_returning.proofs.TextLemmas.{IsWords, heading-words, paragraph-words}
 use Rattle.htmd_law_returning.proofs.WordsLemmas.{clean, false-true}
 
@@ -51,7 +51,8 @@ list-in (documents.block b bs) = ap (documents.block b) (list-in bs)
 
 -- a line's end after a block is a text of its own
 line-apart : (bs : Blocks) → are_simple bs ≡ true
-    → line_end (blocks_trees false false bs) ≡ value.more (value.text (line_feed ∷ [])) (blocks_trees false false bs)
+    → line_end (blocks_trees false false bs)
+    ≡ value.more (value.text (line_feed ∷ [])) (blocks_trees false false bs)
 line-apart no_blocks h = refl
 line-apart (block (paragraph xs) bs) h = refl
 line-apart (block (heading level xs) bs) h = refl

@@ -1,15 +1,17 @@
 -- What blocks give one after another: each one begins where another one ends.
-use Rattle.std.proofs.Common.{◌≡◌, ℕ, suc, Bool, true, false, ◌&&◌, cond, List, [], ◌∷◌, ◌++◌, fold, length, refl, sym}
-use Rattle.std.proofs.Common.{ap, ◌∙◌, encode_utf8_all}
+use Rattle.std.proofs.Common.{◌≡◌, ℕ, suc, Bool, true, false, ◌&&◌, cond, List, [], ◌∷◌, ◌++◌}
+use Rattle.std.proofs.Common.{refl}
+use Rattle.std.proofs.Common.{ap, ◌∙◌}
 use Rattle.std.specs.Prelude.{nat_le}
 use Rattle.std.specs.Str.{chars, IsUtf8}
-use Rattle.std.proofs.lemmas.List.{append_assoc, append-nil}
+use Rattle.std.proofs.lemmas.List.{append-nil}
 use Rattle.std.proofs.lemmas.List.Sums.{fold-append}
 use Rattle.std.proofs.lemmas.Str.{encodes-chars}
 use Rattle.htmd_lexical.specs.Characters.{line_feed}
 use Rattle.htmd_document.specs.DocumentLimits.{most_nested}
 use Rattle.htmd_document.specs.Documents as documents
-use Rattle.htmd_document.specs.Documents.{Block, Blocks, no_blocks, block, paragraph, heading, quote, thematic_break, blocks_of}
+use Rattle.htmd_document.specs.Documents.{Block, Blocks, no_blocks, block, paragraph, heading, quote, thematic_break}
+use Rattle.htmd_document.specs.Documents.{blocks_of}
 use Rattle.htmd_document.specs.TightItems.{is_filled}
 use Rattle.htmd_flow.specs.Contexts.{Context, bare_in, in_one_line, apart}
 use Rattle.htmd_flow.specs.declared.paragraphs.Met.TheVariants as met
@@ -66,7 +68,8 @@ module _ (w : Writing) (done : List Block) (h : IsReady w done) where
 
   pub whole-fed : (b : Block) → fed w (whole b) ≡ clean false (done ++ b ∷ [])
   whole-fed b =
-      ap (λ x. cond x (broken_off w) (record (ended w) { done = (ended w).done ++ b ∷ []; met = met.Nothing })) h.flat
+      ap (λ x. cond x (broken_off w) (record (ended w) { done = (ended w).done ++ b ∷ []; met = met.Nothing }))
+      h.flat
       ∙ ap (λ (v : Writing). record v { done = v.done ++ b ∷ [] }) h.end
 
   pub all-done : (ended w).done ≡ done
@@ -77,7 +80,8 @@ module _ (w : Writing) (done : List Block) (h : IsReady w done) where
 module _ (w : Writing) (done : List Block) (h : IsReady w done) where
   -- a paragraph
   pub words-fed : (s : List ℕ) → IsUtf8 s → are_words false (chars s) ≡ true
-      → fed (fed (fed w edge) (run s [] false)) edge ≡ clean false (done ++ paragraph (one_inline (documents.text s)) ∷ [])
+      → fed (fed (fed w edge) (run s [] false)) edge
+      ≡ clean false (done ++ paragraph (one_inline (documents.text s)) ∷ [])
   words-fed s u e =
       ap (λ v. fed (fed v (run s [] false)) edge) (edge-fed w done h)
       ∙ (ap (λ v. fed v edge) (words-first done false (chars s) e

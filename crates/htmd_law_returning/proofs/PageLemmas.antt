@@ -1,5 +1,6 @@
 -- What shows of the page of what is read: the elements of its blocks, and line ends between them.
-use Rattle.std.proofs.Common.{◌≡◌, ℕ, zero, suc, Bool, true, false, ◌&&◌, List, [], ◌∷◌, refl, sym, ap, ◌∙◌, subst, codes}
+use Rattle.std.proofs.Common.{◌≡◌, ℕ, zero, suc, Bool, true, false, List, [], ◌∷◌, refl, sym, ap}
+use Rattle.std.proofs.Common.{◌∙◌, codes}
 use Rattle.std.proofs.Common.{Option, Some, None}
 use Rattle.std.proofs.Common.{arith}
 use Rattle.std.proofs.lemmas.Bool.{and_parts}
@@ -18,9 +19,9 @@ use Rattle.htmd_shown.specs.declared.role.Role.TheVariants as role
 use Rattle.htmd_shown.specs.Facts.{made}
 use Rattle.htmd_shown.specs.Repeats.{is_copied}
 use Rattle.htmd_shown.specs.Roles.{role_of, table_role, heading_or_block, block_role, inline_role, element_role}
-use Rattle.htmd_shown.specs.Shown.{Sight, nowhere, raised, followed_by, shown, shown_all, shown_in}
+use Rattle.htmd_shown.specs.Shown.{nowhere, raised, followed_by, shown, shown_all, shown_in}
 use Rattle.htmd_shown.specs.ShownTexts.{shown_text}
-use Rattle.htmd_shown.specs.SimpleTrees.{Simple, Simples, text, none, more}
+use Rattle.htmd_shown.specs.SimpleTrees.{Simples, text, none, more}
 use Rattle.htmd_document.specs.NormalDocuments.{is_level}
 use Rattle.htmd_law_rendering.specs.RenderedTrees.{heading_name}
 use Rattle.htmd_law_returning.specs.ReturningLaws.{whole_sight}
@@ -105,7 +106,8 @@ frame html head body ts =
     (more (made head role.Plain [] none) (more (made body role.Block [] ts) none))) none
 
 -- what holds of each level of a heading
-pub by-level : (P : ℕ → Type 0) → P 1 → P 2 → P 3 → P 4 → P 5 → P 6 → (level : ℕ) → is_level level ≡ true → P level
+pub by-level : (P : ℕ → Type 0) → P 1 → P 2 → P 3 → P 4 → P 5 → P 6 → (level : ℕ)
+    → is_level level ≡ true → P level
 by-level P a b c d e f zero h = false-true h
 by-level P a b c d e f (suc zero) h = a
 by-level P a b c d e f (suc (suc zero)) h = b
@@ -116,6 +118,32 @@ by-level P a b c d e f (suc (suc (suc (suc (suc (suc zero)))))) h = f
 by-level P a b c d e f (suc (suc (suc (suc (suc (suc (suc n))))))) h =
     let past : nat_le (suc (suc (suc (suc (suc (suc (suc n))))))) 6 ≡ false = grind (arith, nat_tests) in
     false-true (sym past ∙ (and_parts (nat_le 1 (suc (suc (suc (suc (suc (suc (suc n)))))))) _ h).1)
+
+-- the elements of a page, with what is in the body
+abbrev in_head : (body : ℕ) → NumberedForest → NumberedForest
+in_head body f = page.more (page.element body (codes "body") [] f) page.none
+
+abbrev in_html : (head body : ℕ) → NumberedForest → NumberedForest
+in_html head body f = page.more (page.element head (codes "head") [] page.none) (in_head body f)
+
+body-is : (all : NumberedForest) (body : ℕ) (rest f : NumberedForest)
+    → all ≡ page.more (page.element body (codes "body") [] f) rest → rest ≡ page.none → all ≡ in_head body f
+body-is all body rest f e g = e ∙ ap (page.more (page.element body (codes "body") [] f)) g
+
+head-is : (all : NumberedForest) (head body : ℕ) (inside rest f : NumberedForest)
+    → all ≡ page.more (page.element head (codes "head") [] inside) rest → inside ≡ page.none
+    → rest ≡ in_head body f → all ≡ in_html head body f
+head-is all head body inside rest f e g h =
+    e ∙ (ap (λ x. page.more (page.element head (codes "head") [] x) rest) g
+    ∙ ap (page.more (page.element head (codes "head") [] page.none)) h)
+
+html-is : (all : NumberedForest) (html head body : ℕ) (inside rest f : NumberedForest)
+    → all ≡ page.more (page.element html (codes "html") [] inside) rest → inside ≡ in_html head body f
+    → rest ≡ page.none
+    → all ≡ page.more (page.element html (codes "html") [] (in_html head body f)) page.none
+html-is all html head body inside rest f e g h =
+    e ∙ (ap (λ x. page.more (page.element html (codes "html") [] x) rest) g
+    ∙ ap (page.more (page.element html (codes "html") [] (in_html head body f))) h)
 
 module _ (scripting is_rich : Bool) where
   -- nodes beside each other
@@ -142,14 +170,16 @@ module _ (scripting is_rich : Bool) where
       ≡ more (made id role.Paragraph [] (shown_of None inside)) (shown_of (Some []) f)
   unfolding shown role_of
   paragraph-shown before id inside f h =
-      rw h (ap (λ ts. more (made id role.Paragraph [] ts) (shown_of (Some []) f)) (plain-content id (shown_of None inside)))
+      rw h (ap (λ ts. more (made id role.Paragraph [] ts) (shown_of (Some []) f))
+      (plain-content id (shown_of None inside)))
 
   pub quote-shown : (before : Option (List AttributePair)) (id : ℕ) (inside f : NumberedForest) → IsFresh before
       → shown_of before (page.more (page.element id (codes "blockquote") [] inside) f)
       ≡ more (made id role.BlockQuote [] (shown_of None inside)) (shown_of (Some []) f)
   unfolding shown role_of
   quote-shown before id inside f h =
-      rw h (ap (λ ts. more (made id role.BlockQuote [] ts) (shown_of (Some []) f)) (plain-content id (shown_of None inside)))
+      rw h (ap (λ ts. more (made id role.BlockQuote [] ts) (shown_of (Some []) f))
+      (plain-content id (shown_of None inside)))
 
   pub break-shown : (before : Option (List AttributePair)) (id : ℕ) (inside f : NumberedForest) → IsFresh before
       → shown_of before (page.more (page.element id (codes "hr") [] inside) f)
@@ -227,21 +257,11 @@ module _ (scripting is_rich : Bool) where
       let head = from-element html.inside (codes "head") value.none
       (value.more (value.element (codes "body") [] trees) value.none) html.within in
       let body = from-element head.rest (codes "body") trees value.none head.others in
-      let in_body : NumberedForest = page.more (page.element body.id (codes "body") [] body.inside) page.none in
-      let at_body : head.rest ≡ in_body =
-      body.is ∙ ap (λ g. page.more (page.element body.id (codes "body") [] body.inside) g)
-      (from-none body.rest body.others) in
-      let in_html : NumberedForest = page.more (page.element head.id (codes "head") [] page.none) in_body in
-      let at_head : html.inside ≡ in_html =
-      head.is
-      ∙ (ap (λ g. page.more (page.element head.id (codes "head") [] g) head.rest)
-      (from-none head.inside head.within)
-      ∙ ap (λ g. page.more (page.element head.id (codes "head") [] page.none) g) at_body) in
-      let at_html : children ≡ page.more (page.element html.id (codes "html") [] in_html) page.none =
-      html.is
-      ∙ (ap (λ g. page.more (page.element html.id (codes "html") [] g) html.rest) at_head
-      ∙ ap (λ g. page.more (page.element html.id (codes "html") [] in_html) g)
-      (from-none html.rest html.others)) in
+      let at_body = body-is head.rest body.id body.rest body.inside body.is (from-none body.rest body.others) in
+      let at_head = head-is html.inside head.id body.id head.inside head.rest body.inside head.is
+      (from-none head.inside head.within) at_body in
+      let at_html = html-is children html.id head.id body.id html.inside html.rest body.inside html.is at_head
+      (from-none html.rest html.others) in
       record {
         html = html.id;
         head = head.id;

@@ -1,16 +1,15 @@
 -- The law of what is simple.
-use Rattle.std.proofs.Common.{◌≡◌, ℕ, ◌+◌, ◌≤◌, Bool, true, false, ◌&&◌, List, [], refl, sym, ap, ◌∙◌, subst, arith, Option, Some, None}
+use Rattle.std.proofs.Common.{◌≡◌, ℕ, ◌+◌, ◌≤◌, Bool, true, false, ◌&&◌, [], sym, ap, ◌∙◌}
+use Rattle.std.proofs.Common.{subst, arith, None}
 use Rattle.std.specs.Prelude.{nat_le}
 use Rattle.std.specs.Option.{unwrap_or}
 use Rattle.std.proofs.lemmas.Bool.{and_parts}
 use Rattle.std.proofs.lemmas.Bool.Decides.{nat_tests}
 use Rattle.htmd_grammar.specs.HtmlDocuments.{skeleton}
 use Rattle.htmd_document.specs.DocumentLimits.{most_nested}
-use Rattle.htmd_document.specs.Documents as documents
 use Rattle.htmd_document.specs.NormalDocuments.{are_normal_blocks, depth_among, IsNormal}
 use Rattle.htmd_flow.specs.Flows as flow
 use Rattle.htmd_nodes.proofs.LayoutLemmas.{document_items-denotes}
-use Rattle.htmd_shown.specs.Shown.{shown_in}
 use Rattle.htmd_shown.specs.SimpleTrees.{Simples}
 use Rattle.htmd_commonmark_reading.specs.Markup.{Blocks}
 use Rattle.htmd_document_of_tree.specs.declared.anchors.Anchors.{Anchors}
@@ -26,7 +25,8 @@ use Rattle.htmd_law_returning.proofs.FlowLemmas.{frame-blocks}
 use Rattle.htmd_law_returning.proofs.PageLemmas.{frame, shown_of, framed, fresh-first}
 use Rattle.htmd_law_returning.proofs.SeenLemmas.{documents_of, blocks-seen}
 
-frame-bare : (html head body : ℕ) (ts : Simples) → are_bare ts ≡ true → are_bare (frame html head body ts) ≡ true
+frame-bare : (html head body : ℕ) (ts : Simples) → are_bare ts ≡ true
+    → are_bare (frame html head body ts) ≡ true
 frame-bare html head body ts h = ap (λ b. (b && true) && true) h
 
 simple-page : (which : Anchors) (scripting is_rich : Bool) (bs : Blocks) → are_simple bs ≡ true
@@ -34,7 +34,8 @@ simple-page : (which : Anchors) (scripting is_rich : Bool) (bs : Blocks) → are
     → document_of_tree which (whole_sight scripting is_rich) (page_of bs) ≡ documents_of bs
 unfolding document_of_tree document_by
 simple-page which scripting is_rich bs simple normal =
-    let good = and_parts (are_normal_blocks false (documents_of bs)) (nat_le (depth_among (documents_of bs)) most_nested) normal in
+    let good = and_parts (are_normal_blocks false (documents_of bs))
+    (nat_le (depth_among (documents_of bs)) most_nested) normal in
     let fits : depth_among (documents_of bs) + 0 ≤ most_nested = grind (arith, nat_tests, good.1) in
     let f = framed scripting is_rich (page_of bs) (trees_of bs) (document_items-denotes (skeleton (trees_of bs))) in
     let all : AreReturned scripting is_rich None f.inside 0 (documents_of bs) =

@@ -1,9 +1,8 @@
 -- What one sees of what is simple: the same, with a text for its letters.
-use Rattle.std.proofs.Common.{◌≡◌, ℕ, Bool, true, false, ◌&&◌, List, [], ◌∷◌, ◌++◌, refl, sym, ap, ◌∙◌, Option, Some, None}
+use Rattle.std.proofs.Common.{◌≡◌, ℕ, true, ◌&&◌, [], ◌∷◌, refl, ap, ◌∙◌, Some}
 use Rattle.std.specs.List.{list_all}
 use Rattle.std.specs.Str.{chars}
 use Rattle.std.proofs.lemmas.Bool.{and_parts}
-use Rattle.std.proofs.lemmas.List.{append-nil}
 use Rattle.htmd_values.specs.ValueTrees.{ValueForest}
 use Rattle.htmd_values.specs.ValueTrees as value
 use Rattle.htmd_document.specs.Documents as documents
@@ -14,7 +13,7 @@ use Rattle.htmd_commonmark_reading.specs.Markup.{thematic_break, list, table, ht
 use Rattle.htmd_commonmark_reading.specs.Markup.{joined, plain_text}
 use Rattle.htmd_commonmark_reading.specs.SeenMarkup.{all_seen, outside, seen, seen_inlines, is_text_alone, with_letter}
 use Rattle.htmd_commonmark_reading.specs.SeenMarkup.{seen_block, seen_blocks, document_inlines, document_block}
-use Rattle.htmd_commonmark_reading.specs.SeenMarkup.{document_blocks, option_of, option_of_both}
+use Rattle.htmd_commonmark_reading.specs.SeenMarkup.{document_blocks, option_of}
 use Rattle.htmd_law_rendering.specs.RenderedTrees.{text_before, inlines_trees}
 use Rattle.htmd_law_returning.specs.SimpleReadings.{is_plain, is_simple, are_simple}
 use Rattle.htmd_law_returning.proofs.WordsLemmas.{false-true}
@@ -44,7 +43,8 @@ joined-letter (line_break xs) c ys = ap line_break (joined-letter xs c ys)
 joined-letter (task d xs) c ys = ap (task d) (joined-letter xs c ys)
 joined-letter (raw tag xs) c ys = ap (raw tag) (joined-letter xs c ys)
 
-letters-seen : (items xs : Inlines) → is_text_alone xs ≡ true → seen (outside items) xs ≡ outside (joined items xs)
+letters-seen : (items xs : Inlines) → is_text_alone xs ≡ true
+    → seen (outside items) xs ≡ outside (joined items xs)
 letters-seen items no_inlines h = false-true h
 letters-seen items (letter c no_inlines) h = refl
 letters-seen items (letter c (letter d xs)) h =
@@ -131,7 +131,8 @@ mutual
   block-seen (table alignments header rows) h = false-true h
   block-seen (html_block s) h = false-true h
 
-  pub blocks-seen : (bs : Blocks) → are_simple bs ≡ true → document_blocks (seen_blocks bs) ≡ Some (documents_of bs)
+  pub blocks-seen : (bs : Blocks) → are_simple bs ≡ true
+      → document_blocks (seen_blocks bs) ≡ Some (documents_of bs)
   blocks-seen no_blocks h = refl
   blocks-seen (block b bs) h =
       let parts = and_parts (is_simple b) (are_simple bs) h in

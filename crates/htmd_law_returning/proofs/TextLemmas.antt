@@ -1,5 +1,6 @@
 -- Normal texts are words: what shows, with single spaces between.
-use Rattle.std.proofs.Common.{◌≡◌, ℕ, Bool, true, false, not, ◌&&◌, ◌||◌, ◌==◌, cond, List, [], ◌∷◌, ◌++◌, reverse}
+use Rattle.std.proofs.Common.{◌≡◌, ℕ, Bool, true, false, not, ◌&&◌, ◌||◌, ◌==◌, cond, List, []}
+use Rattle.std.proofs.Common.{◌∷◌, ◌++◌, reverse}
 use Rattle.std.proofs.Common.{refl, sym, ap, ◌∙◌, filter, arith, encode_utf8_all}
 use Rattle.std.specs.Prelude.{encode_utf8}
 use Rattle.std.specs.List.{list_all}
@@ -19,7 +20,7 @@ use Rattle.htmd_flow.specs.Nesting.{one_inline}
 use Rattle.htmd_shown.specs.ShownTexts.{is_shown, shown_text}
 use Rattle.htmd_shown.specs.Spaces.{is_white}
 use Rattle.htmd_law_returning.specs.SimpleReadings.{is_plain}
-use Rattle.htmd_law_returning.proofs.WordsLemmas.{are_words, false-true, true-false, from-not, space-bytes}
+use Rattle.htmd_law_returning.proofs.WordsLemmas.{are_words, true-false, from-not, space-bytes}
 
 -- ---- tests
 
@@ -51,7 +52,8 @@ plain-shows [] h = refl
 plain-shows (c ∷ cs) h =
     let parts = and_parts (is_plain c) (list_all is_plain cs) h in
     let own = and_parts (is_shown c) (not (is_white c) || (c == space)) parts.0 in
-    ap (λ b. cond b (c ∷ filter is_shown cs) (filter is_shown cs)) own.0 ∙ ap (λ xs. c ∷ xs) (plain-shows cs parts.1)
+    ap (λ b. cond b (c ∷ filter is_shown cs) (filter is_shown cs)) own.0
+    ∙ ap (λ xs. c ∷ xs) (plain-shows cs parts.1)
 
 plain-black : (c : ℕ) → is_plain c ≡ true → (c == space) ≡ false → not (is_white c) ≡ true
 plain-black c h e =
@@ -59,7 +61,8 @@ plain-black c h e =
     (and_parts (is_shown c) (not (is_white c) || (c == space)) h).1 e
 
 -- a space before characters
-space-before : (c : ℕ) (cs : List ℕ) → (c == space) ≡ true → encode_utf8_all (c ∷ cs) ≡ space ∷ encode_utf8_all cs
+space-before : (c : ℕ) (cs : List ℕ) → (c == space) ≡ true
+    → encode_utf8_all (c ∷ cs) ≡ space ∷ encode_utf8_all cs
 space-before c cs e =
     let same : c ≡ space = grind (arith, nat_tests, e) in
     ap (λ x. encode_utf8 x ++ encode_utf8_all cs) same ∙ ap (λ x. x ++ encode_utf8_all cs) (sym space-bytes)
@@ -116,7 +119,8 @@ pub record IsWords (s : List ℕ) : Type 0 where
   pub shown : shown_text s ≡ s
   pub words : are_words false (chars s) ≡ true
 
-are-words : (s : List ℕ) → list_all is_plain (chars s) ≡ true → is_text s ≡ true → first_is space s ≡ false
+are-words : (s : List ℕ) → list_all is_plain (chars s) ≡ true → is_text s ≡ true
+    → first_is space s ≡ false
     → ends_in_space s ≡ false → IsWords s
 are-words s p h f e =
     let parts = and_parts (is_line s && not (is_empty s)) (not (has_double_space s)) h in

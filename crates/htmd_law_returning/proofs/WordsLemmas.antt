@@ -1,6 +1,7 @@
 -- Characters one after another, with single spaces between: they come in as one text.
-use Rattle.std.proofs.Common.{◌≡◌, ℕ, Bool, true, false, not, ◌&&◌, ◌==◌, cond, if◌then◌else◌, List, [], ◌∷◌, ◌++◌, length, fold}
-use Rattle.std.proofs.Common.{refl, sym, ap, ◌∙◌, subst, arith, encode_utf8_all}
+use Rattle.std.proofs.Common.{◌≡◌, ℕ, Bool, true, false, not, ◌&&◌, ◌==◌, cond, if◌then◌else◌}
+use Rattle.std.proofs.Common.{List, [], ◌∷◌, ◌++◌, fold}
+use Rattle.std.proofs.Common.{refl, sym, ap, ◌∙◌, arith, encode_utf8_all}
 use Rattle.std.specs.Prelude.{encode_utf8}
 use Rattle.std.proofs.lemmas.Bool.{and_parts}
 use Rattle.std.proofs.lemmas.Bool.Decides.{nat_tests}
@@ -87,7 +88,8 @@ module _ (done : List Block) where
   word-past true s c h = rw h refl
   word-past false s c h = rw h refl
 
-  pub word-space : (flat : Bool) (s : List ℕ) → with_character (in_words flat done s) space ≡ spaced_words flat done s
+  pub word-space : (flat : Bool) (s : List ℕ)
+      → with_character (in_words flat done s) space ≡ spaced_words flat done s
   unfolding encode
   word-space flat s = refl
 
@@ -132,5 +134,6 @@ module _ (done : List Block) where
       ap (λ w. fold with_character w cs) (word-first flat c parts.0) ∙ words-next flat cs (encode_utf8 c) parts.1
 
   -- the paragraph ends
-  pub words-end : (s : List ℕ) → fed (in_words false done s) edge ≡ clean false (done ++ paragraph (one_inline (text s)) ∷ [])
+  pub words-end : (s : List ℕ) → fed (in_words false done s) edge
+      ≡ clean false (done ++ paragraph (one_inline (text s)) ∷ [])
   words-end s = refl

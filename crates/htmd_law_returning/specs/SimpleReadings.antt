@@ -6,8 +6,8 @@ use Rattle.std.specs.Str.{chars}
 use Rattle.htmd_lexical.specs.Characters.{space}
 use Rattle.htmd_shown.specs.ShownTexts.{is_shown}
 use Rattle.htmd_shown.specs.Spaces.{is_white}
-use Rattle.htmd_commonmark_reading.specs.Markup.{Inlines, Block, paragraph, heading, code_block, quote, thematic_break}
-use Rattle.htmd_commonmark_reading.specs.Markup.{list, table, html_block, Blocks, no_blocks, block, plain_text}
+use Rattle.htmd_commonmark_reading.specs.Markup.{Inlines, Block, paragraph, heading, quote, thematic_break}
+use Rattle.htmd_commonmark_reading.specs.Markup.{Blocks, no_blocks, block, plain_text}
 use Rattle.htmd_commonmark_reading.specs.SeenMarkup.{is_text_alone}
 
 -- A page shows no U+FEFF, and white space at the ends of a paragraph is none of it, no-break spaces as well.
