@@ -5,6 +5,7 @@ use Rattle.htmd_nodes.specs.Items.{IsTree, HoldTexts}
 use Rattle.htmd_nodes.specs.NumberedTrees.{value_at}
 use Rattle.htmd_article.specs.Articles.{article_of, article_page}
 use Rattle.htmd_article.specs.declared.choices.Chosen.{Chosen}
+use Rattle.htmd_lexical.specs.ByteOrderMarks.{behind_mark}
 use Rattle.htmd_lexical.specs.Characters.{line_feed}
 use Rattle.htmd_grammar.specs.declared.fault.FaultKind.{FaultKind}
 use Rattle.htmd_nodes.specs.Items.{Item, document_item, new_item, element_node, text_node}
@@ -61,9 +62,9 @@ paragraph_output config text = paragraph_markdown config text ++ line_feed ∷ [
 abbrev pub reads_any : Settings → Bool
 reads_any settings = not settings.from_markdown && settings.html5 && not settings.text
 
--- the HTML of a text of Markdown
+-- the HTML of a text of Markdown, without a byte order mark at its beginning
 unfoldable pub html_of_markdown : List ℕ → List ℕ
-html_of_markdown text = html_of (read text)
+html_of_markdown text = html_of (read (behind_mark text))
 
 -- the bytes hold a text: in their encoding, whatever they are, if all are read, else only in UTF-8
 abbrev pub IsReadable : Settings → List ℕ → Type 0

@@ -31,6 +31,7 @@ use htmd_document::Document;
 use htmd_encodings::page_text;
 use htmd_html5::parse_html5;
 use htmd_nodes::Tree;
+use htmd_tree::behind_mark;
 use htmd_walk::element_handler::{Registrar, Registry};
 use htmd_walk::options::Options;
 use std::alloc::{AllocError, Global};
@@ -70,12 +71,12 @@ fn reads_any(settings: &PageSettings<'_>) -> bool
     !settings.from_markdown && settings.html5 && !settings.text
 }
 
-/// The HTML of Markdown.
+/// The HTML of Markdown, without a byte order mark at its beginning.
 #[tactic(auto, unfolding(crate::specs::PageOutputs::html_of_markdown))]
 fn html_of(alloc: Global, markdown: &str) -> Result<String, AllocError>
     ensures { IfOk result (λ html. string_bytes html ≡ spec.html_of_markdown markdown.now) }
 {
-    markdown_to_html(alloc, markdown)
+    markdown_to_html(alloc, behind_mark(markdown))
 }
 
 /// The text of the page that the bytes of an input hold: in their encoding if any page is read, else only in UTF-8; of

@@ -134,6 +134,8 @@ fn converts_markdown(rt: HostRuntime) -> Result<(), Fail> {
     settings.guarded = true;
     let markdown = convert_page(alloc, b"a\n=\n\n+ *b*", &settings)?;
     expect_text("Markdown", markdown.as_str(), "# a\n\n*   *b*")?;
+    let behind_mark = convert_page(alloc, b"\xef\xbb\xbf- a", &settings)?;
+    expect_text("behind a byte order mark", behind_mark.as_str(), "*   a")?;
     settings.as_html = true;
     let html = convert_page(alloc, b"a\n=\n\n+ *b*", &settings)?;
     expect_text(

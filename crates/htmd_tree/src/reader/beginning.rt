@@ -18,8 +18,8 @@ use htmd_nodes::{NodeId, Tree, TreeError};
 use htmd_scanning::{strip_byte, strip_in_any_case};
 use std::alloc::Global;
 
-/// The text without a byte order mark at its beginning.
-pub(crate) fn behind_mark(text: &str) -> &str
+/// The text, which is UTF-8, without a byte order mark at its beginning.
+pub fn behind_mark(text: &str) -> &str
     ensures { result.now ≡ documents.behind_mark text.now }
 {
     match text.strip_prefix("\u{feff}") {
