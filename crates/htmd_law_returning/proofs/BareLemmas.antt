@@ -25,7 +25,7 @@ use Rattle.htmd_document_of_tree.specs.Limits.{budget, limited}
 use Rattle.htmd_document_of_tree.specs.Seen.{seen}
 use Rattle.htmd_document_of_tree.specs.Targets.{Target, target_by, own_targets, targets_inside, targets_among, whole_in}
 use Rattle.htmd_document_of_tree.specs.Targets.{firsts, all_targets}
-use Rattle.htmd_law_returning.proofs.WordsLemmas.{false-true, from-not}
+use Rattle.htmd_law_returning.proofs.StartLemmas.{false-true, from-not}
 use lib.Utf8.{encode}
 
 abbrev pub has_no_pair : List AttributePair → Bool

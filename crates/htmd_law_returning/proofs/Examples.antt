@@ -13,7 +13,7 @@ use Rattle.htmd_document_of_tree.specs.declared.anchors.Anchors.TheVariants as w
 use Rattle.htmd_document_of_tree.specs.TreeDocuments.{document_by, document_of_tree}
 use Rattle.htmd_law_returning.specs.RenderedPages.{page_of}
 use Rattle.htmd_law_returning.specs.ReturningLaws.{whole_sight}
-use Rattle.htmd_law_returning.specs.SimpleReadings.{are_simple}
+use Rattle.htmd_law_returning.specs.SettledDocuments.{are_settled}
 use lib.Utf8.{encode}
 
 -- the document of the page of a text
@@ -26,24 +26,23 @@ is_normal (Some d) = is_normal_document d
 
 -- ---- what comes back
 
-abbrev simple : List ℕ
-simple = codes "# a\n\nb\n> c d\n> > e\n\n***"
+abbrev is_settled : Option Blocks → Bool
+is_settled None = false
+is_settled (Some d) = are_settled d
 
-simple_is_simple : are_simple (read simple) ≡ true
+abbrev settled : List ℕ
+settled = codes "# a\n\n*b* **c *d***~~e~~ `f g`\n> h\n> > i\n\n***"
+
+settled_is_settled : is_settled (document settled) ≡ true
 unfolding chars encode
-simple_is_simple = refl
+settled_is_settled = refl
 
-simple_returns : returned simple ≡ document simple
+settled_returns : returned settled ≡ document settled
 unfolding chars encode forest_from tree_of role_of table_role heading_or_block block_role inline_role element_role shown
     document_by document_of_tree node_of digits
-simple_returns = refl
+settled_returns = refl
 
--- formats aren't simple, and these come back
-formats_return : returned (codes "*a* **b *c***~~d~~ `e`") ≡ document (codes "*a* **b *c***~~d~~ `e`")
-unfolding chars encode forest_from tree_of role_of table_role heading_or_block block_role inline_role element_role shown
-    document_by document_of_tree node_of digits
-formats_return = refl
-
+-- lists and code blocks aren't settled so far, and these come back
 lists_return : returned (codes "- a\n  - b\n- c\n\n3. d\n\n4. e") ≡ document (codes "- a\n  - b\n- c\n\n3. d\n\n4. e")
 unfolding chars encode forest_from tree_of role_of table_role heading_or_block block_role inline_role element_role shown
     document_by document_of_tree node_of digits
@@ -57,6 +56,10 @@ code_returns = refl
 -- ---- what is normal, and doesn't come back
 
 -- what is beside each other in the same format is one
+two_formats_apart : is_settled (document (codes "*a* *b*")) ≡ false
+unfolding chars encode
+two_formats_apart = refl
+
 two_formats : is_normal (document (codes "*a* *b*")) ≡ true
 unfolding chars encode is_utf8
 two_formats = refl

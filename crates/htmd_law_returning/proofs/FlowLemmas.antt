@@ -3,13 +3,11 @@ use Rattle.std.proofs.Common.{◌≡◌, ℕ, suc, Bool, true, false, ◌&&◌, 
 use Rattle.std.proofs.Common.{refl}
 use Rattle.std.proofs.Common.{ap, ◌∙◌}
 use Rattle.std.specs.Prelude.{nat_le}
-use Rattle.std.specs.Str.{chars, IsUtf8}
+use Rattle.std.specs.Str.{chars}
 use Rattle.std.proofs.lemmas.List.{append-nil}
 use Rattle.std.proofs.lemmas.List.Sums.{fold-append}
-use Rattle.std.proofs.lemmas.Str.{encodes-chars}
 use Rattle.htmd_lexical.specs.Characters.{line_feed}
 use Rattle.htmd_document.specs.DocumentLimits.{most_nested}
-use Rattle.htmd_document.specs.Documents as documents
 use Rattle.htmd_document.specs.Documents.{Block, Blocks, no_blocks, block, paragraph, heading, quote, thematic_break}
 use Rattle.htmd_document.specs.Documents.{blocks_of}
 use Rattle.htmd_document.specs.TightItems.{is_filled}
@@ -17,7 +15,6 @@ use Rattle.htmd_flow.specs.Contexts.{Context, bare_in, in_one_line, apart}
 use Rattle.htmd_flow.specs.declared.paragraphs.Met.TheVariants as met
 use Rattle.htmd_flow.specs.Flows.{node_of, nodes_of, flow_all}
 use Rattle.htmd_flow.specs.Flows as flow
-use Rattle.htmd_flow.specs.Nesting.{one_inline}
 use Rattle.htmd_flow.specs.Paragraphs.{Writing, broken_off, ended, fed, fed_all, blocks_in, line_in, is_boxed_item}
 use Rattle.htmd_flow.specs.Parts.{Part, run, edge, whole}
 use Rattle.htmd_shown.specs.declared.role.Role.TheVariants as role
@@ -26,7 +23,16 @@ use Rattle.htmd_shown.specs.Facts.{made, facts_of}
 use Rattle.htmd_shown.specs.SimpleTrees.{Simple, Simples, text, none, more}
 use Rattle.htmd_law_returning.proofs.BareLemmas.{is_bare, are_bare}
 use Rattle.htmd_law_returning.proofs.PageLemmas.{frame}
-use Rattle.htmd_law_returning.proofs.WordsLemmas.{clean, in_words, are_words, false-true, words-first, words-end}
+use Rattle.htmd_document.specs.Documents.{Inlines, no_inlines, inline}
+use Rattle.htmd_document.specs.NormalInlines.{has_none, are_normal}
+use Rattle.htmd_flow.specs.Nesting.{Wrapper}
+use Rattle.htmd_shown.specs.Spaces.{no_gap}
+use Rattle.htmd_law_returning.specs.SettledDocuments.{are_settled_inlines}
+use Rattle.htmd_law_returning.proofs.LineLemmas.{parts_in, IsWhole, IsFed, IsEntry, begin-all}
+use Rattle.htmd_law_returning.proofs.NestLemmas.{whole-hole}
+use Rattle.htmd_law_returning.proofs.RunLemmas.{in_line}
+use Rattle.htmd_law_returning.proofs.ShownLineLemmas.{place}
+use Rattle.htmd_law_returning.proofs.StartLemmas.{clean, false-true, true-false}
 use lib.Utf8.{encode}
 
 -- so many quotes around
@@ -78,16 +84,6 @@ module _ (w : Writing) (done : List Block) (h : IsReady w done) where
 -- ---- blocks
 
 module _ (w : Writing) (done : List Block) (h : IsReady w done) where
-  -- a paragraph
-  pub words-fed : (s : List ℕ) → IsUtf8 s → are_words false (chars s) ≡ true
-      → fed (fed (fed w edge) (run s [] false)) edge
-      ≡ clean false (done ++ paragraph (one_inline (documents.text s)) ∷ [])
-  words-fed s u e =
-      ap (λ v. fed (fed v (run s [] false)) edge) (edge-fed w done h)
-      ∙ (ap (λ v. fed v edge) (words-first done false (chars s) e
-      ∙ ap (in_words false done) (encodes-chars s u))
-      ∙ words-end done s)
-
   -- a block between edges
   pub apart-fed : (b : Block) → fed (fed (fed w edge) (whole b)) edge ≡ clean false (done ++ b ∷ [])
   apart-fed b =
@@ -107,24 +103,22 @@ module _ (is_rich : Bool) (n id : ℕ) where
   unfolding node_of
   text-parts s ts = refl
 
-  pub paragraph-parts : (s : List ℕ) (ts : Simples)
-      → parts_of is_rich n (more (made id role.Paragraph [] (more (text s) none)) ts)
-      ≡ edge ∷ run s [] false ∷ edge ∷ parts_of is_rich n ts
+  pub paragraph-parts : (content ts : Simples)
+      → parts_of is_rich n (more (made id role.Paragraph [] content) ts)
+      ≡ apart (parts_of is_rich n content) ++ parts_of is_rich n ts
   unfolding node_of
-  paragraph-parts s ts = refl
+  paragraph-parts content ts = refl
 
-  pub heading-parts : (level : ℕ) (s : List ℕ) (ts : Simples) → IsUtf8 s → are_words false (chars s) ≡ true
-      → parts_of is_rich n (more (made id (role.Heading level) [] (more (text s) none)) ts)
-      ≡ edge ∷ whole (heading level (one_inline (documents.text s))) ∷ edge ∷ parts_of is_rich n ts
+  pub heading-parts : (level : ℕ) (content ts : Simples)
+      → parts_of is_rich n (more (made id (role.Heading level) [] content) ts)
+      ≡ apart (flow.heading_of level (flow.line_of (flow_all (nodes_of content) (place true is_rich n []))))
+      ++ parts_of is_rich n ts
   unfolding node_of
-  heading-parts level s ts u e =
-      let known : Facts = facts_of (more (text s) none) in
-      let line : fed_all (clean true []) (run s [] false ∷ []) ≡ in_words true [] s =
-      words-first [] true (chars s) e ∙ ap (in_words true []) (encodes-chars s u) in
-      ap (λ c. apart (flow.heading_of level (flow.line_of (flow_all (nodes_of (more (text s) none)) (in_one_line c))))
+  heading-parts level content ts =
+      let known : Facts = facts_of content in
+      ap (λ c. apart (flow.heading_of level (flow.line_of (flow_all (nodes_of content) (in_one_line c))))
       ++ parts_of is_rich n ts)
       (same-context (known.shows_sign && false))
-      ∙ ap (λ w. apart (flow.heading_of level (line_in w)) ++ parts_of is_rich n ts) line
     where
       same-context : (b : Bool) → cond b (here is_rich n) (here is_rich n) ≡ here is_rich n
       same-context true = refl
@@ -144,6 +138,35 @@ module _ (is_rich : Bool) (n id : ℕ) where
   quote-parts content ts no_blocks h filled e = false-true filled
   quote-parts content ts (block b bs) h filled e = rw h (rw e refl)
 
+-- ---- lines
+
+entry-clean : (flat : Bool) (done : List Block) → IsEntry flat done (λ xs. xs) [] (clean flat done)
+entry-clean true done inner c y = refl
+entry-clean false done inner c y = refl
+
+line-fed : (flat : Bool) (done : List Block) (xs : Inlines) → IsWhole xs → are_normal false [] xs ≡ true
+    → are_settled_inlines xs ≡ true
+    → IsFed flat done (λ ys. ys) [] whole-hole (clean flat done) (parts_in [] xs) xs
+line-fed flat done xs ends normal settled =
+    begin-all flat done xs (λ ys. ys) [] whole-hole [] (clean flat done) (entry-clean flat done) ends normal settled
+
+-- the paragraph ends
+line-end : (xs : Inlines) (done : List Block) (ms : List Wrapper) (k : Bool) → has_none xs ≡ false
+    → fed (in_line false done xs ms k no_gap) edge ≡ clean false (done ++ paragraph xs ∷ [])
+line-end no_inlines done ms k h = true-false h
+line-end (inline x xs) done ms true h = refl
+line-end (inline x xs) done ms false h = refl
+
+-- the one line
+line-left : (xs : Inlines) (ms : List Wrapper) (k : Bool) → line_in (in_line true [] xs ms k no_gap) ≡ xs
+line-left xs ms true = refl
+line-left xs ms false = refl
+
+some-heading : (level : ℕ) (xs : Inlines) → has_none xs ≡ false
+    → flow.heading_of level xs ≡ whole (heading level xs) ∷ []
+some-heading level no_inlines h = true-false h
+some-heading level (inline x xs) h = refl
+
 -- the block that an element gives
 pub record GivesBlock (is_rich : Bool) (n : ℕ) (tree : Simple) (b : Block) : Type 0 where
   pub bare : is_bare tree ≡ true
@@ -152,25 +175,38 @@ pub record GivesBlock (is_rich : Bool) (n : ℕ) (tree : Simple) (b : Block) : T
       ≡ fed_all (clean false (done ++ b ∷ [])) (parts_of is_rich n ts)
 
 module _ (is_rich : Bool) (n id : ℕ) where
-  pub paragraph-gives : (s : List ℕ) → IsUtf8 s → are_words false (chars s) ≡ true
-      → GivesBlock is_rich n (made id role.Paragraph [] (more (text s) none))
-      (paragraph (one_inline (documents.text s)))
-  paragraph-gives s u e = record {
-    bare = refl;
+  pub paragraph-gives : (content : Simples) (xs : Inlines) → are_bare content ≡ true
+      → parts_of is_rich n content ≡ parts_in [] xs → IsWhole xs → are_normal false [] xs ≡ true
+      → are_settled_inlines xs ≡ true
+      → GivesBlock is_rich n (made id role.Paragraph [] content) (paragraph xs)
+  paragraph-gives content xs bare e ends normal settled = record {
+    bare = bare;
     gives = λ w done h ts.
-        ap (fed_all w) (paragraph-parts is_rich n id s ts)
-        ∙ ap (λ v. fed_all v (parts_of is_rich n ts)) (words-fed w done h s u e);
+        let line = line-fed false done xs ends normal settled in
+        ap (fed_all w) (paragraph-parts is_rich n id content ts)
+        ∙ (fold-append fed w (apart (parts_of is_rich n content)) (parts_of is_rich n ts)
+        ∙ ap (λ v. fed_all v (parts_of is_rich n ts))
+        (fold-append fed (fed w edge) (parts_of is_rich n content) (edge ∷ [])
+        ∙ ap (λ v. fed v edge)
+        (ap (λ v. fed_all v (parts_of is_rich n content)) (edge-fed w done h)
+        ∙ (ap (fed_all (clean false done)) e ∙ line.is))
+        ∙ line-end xs done line.inner line.last ends.some));
   }
 
-  pub heading-gives : (level : ℕ) (s : List ℕ) → IsUtf8 s → are_words false (chars s) ≡ true
-      → GivesBlock is_rich n (made id (role.Heading level) [] (more (text s) none))
-      (heading level (one_inline (documents.text s)))
-  heading-gives level s u e = record {
-    bare = refl;
+  pub heading-gives : (level : ℕ) (content : Simples) (xs : Inlines) → are_bare content ≡ true
+      → flow_all (nodes_of content) (place true is_rich n []) ≡ parts_in [] xs → IsWhole xs
+      → are_normal false [] xs ≡ true → are_settled_inlines xs ≡ true
+      → GivesBlock is_rich n (made id (role.Heading level) [] content) (heading level xs)
+  heading-gives level content xs bare e ends normal settled = record {
+    bare = bare;
     gives = λ w done h ts.
-        ap (fed_all w) (heading-parts is_rich n id level s ts u e)
-        ∙ ap (λ v. fed_all v (parts_of is_rich n ts))
-        (apart-fed w done h (heading level (one_inline (documents.text s))));
+        let line = line-fed true [] xs ends normal settled in
+        let same : flow.line_of (flow_all (nodes_of content) (place true is_rich n [])) ≡ xs =
+        ap flow.line_of e ∙ (ap line_in line.is ∙ line-left xs line.inner line.last) in
+        ap (fed_all w) (heading-parts is_rich n id level content ts
+        ∙ (ap (λ ys. apart (flow.heading_of level ys) ++ parts_of is_rich n ts) same
+        ∙ ap (λ ps. apart ps ++ parts_of is_rich n ts) (some-heading level xs ends.some)))
+        ∙ ap (λ v. fed_all v (parts_of is_rich n ts)) (apart-fed w done h (heading level xs));
   }
 
   pub break-gives : GivesBlock is_rich n (made id role.ThematicBreak [] none) thematic_break

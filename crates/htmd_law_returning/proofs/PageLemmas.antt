@@ -20,13 +20,12 @@ use Rattle.htmd_shown.specs.Facts.{made}
 use Rattle.htmd_shown.specs.Repeats.{is_copied}
 use Rattle.htmd_shown.specs.Roles.{role_of, table_role, heading_or_block, block_role, inline_role, element_role}
 use Rattle.htmd_shown.specs.Shown.{nowhere, raised, followed_by, shown, shown_all, shown_in}
-use Rattle.htmd_shown.specs.ShownTexts.{shown_text}
 use Rattle.htmd_shown.specs.SimpleTrees.{Simples, text, none, more}
 use Rattle.htmd_document.specs.NormalDocuments.{is_level}
 use Rattle.htmd_law_rendering.specs.RenderedTrees.{heading_name}
 use Rattle.htmd_law_returning.specs.ReturningLaws.{whole_sight}
 use Rattle.htmd_law_returning.proofs.BareLemmas.{followed-none}
-use Rattle.htmd_law_returning.proofs.WordsLemmas.{false-true}
+use Rattle.htmd_law_returning.proofs.StartLemmas.{false-true}
 use lib.Utf8.{encode}
 
 -- ---- from the trees to those with numbers
@@ -154,11 +153,6 @@ module _ (scripting is_rich : Bool) where
   unfolding shown
   none-shown before = refl
 
-  pub text-shown : (before : Option (List AttributePair)) (id : ℕ) (s : List ℕ) (f : NumberedForest)
-      → shown_of before (page.more (page.text id s) f) ≡ more (text (shown_text s)) (shown_of before f)
-  unfolding shown
-  text-shown before id s f = refl
-
   pub line-shown : (before : Option (List AttributePair)) (id : ℕ) (f : NumberedForest)
       → shown_of before (page.more (page.text id (line_feed ∷ [])) f)
       ≡ more (text (line_feed ∷ [])) (shown_of before f)
@@ -190,11 +184,6 @@ module _ (scripting is_rich : Bool) where
   -- nodes in a heading
   abbrev pub shown_in_heading : NumberedForest → Simples
   shown_in_heading f = shown_all (whole_sight scripting is_rich) (record nowhere { in_head = true }) None None f
-
-  pub words-in-heading : (id : ℕ) (s : List ℕ)
-      → shown_in_heading (page.more (page.text id s) page.none) ≡ more (text (shown_text s)) none
-  unfolding shown
-  words-in-heading id s = refl
 
   abbrev IsHeading : Option (List AttributePair) → ℕ → NumberedForest → NumberedForest → ℕ → Type 0
   IsHeading before id inside f level =

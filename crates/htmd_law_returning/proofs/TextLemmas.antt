@@ -1,4 +1,4 @@
--- Normal texts are words: what shows, with single spaces between.
+-- Normal texts: what shows, with single spaces between.
 use Rattle.std.proofs.Common.{◌≡◌, ℕ, Bool, true, false, not, ◌&&◌, ◌||◌, ◌==◌, cond, List, []}
 use Rattle.std.proofs.Common.{◌∷◌, ◌++◌, reverse}
 use Rattle.std.proofs.Common.{refl, sym, ap, ◌∙◌, filter, arith, encode_utf8_all}
@@ -12,15 +12,12 @@ use Rattle.std.proofs.lemmas.Str.{encodes-chars, IsUtf8-from_is_utf8}
 use Rattle.htmd_lexical.specs.Characters.{space}
 use Rattle.htmd_lexical.specs.CharacterClasses.{first_is, is_empty}
 use Rattle.htmd_lexical.proofs.Cases.{test}
-use Rattle.htmd_document.specs.Documents.{text}
-use Rattle.htmd_document.specs.NormalDocuments.{is_level, is_normal_heading, is_normal_paragraph}
 use Rattle.htmd_document.specs.NormalInlines.{is_line, is_line_byte, is_text, has_double_space, ends_in_space}
-use Rattle.htmd_document.specs.NormalInlines.{are_anchors, anchors_stand_well, is_normal_line}
-use Rattle.htmd_flow.specs.Nesting.{one_inline}
 use Rattle.htmd_shown.specs.ShownTexts.{is_shown, shown_text}
-use Rattle.htmd_shown.specs.Spaces.{is_white}
-use Rattle.htmd_law_returning.specs.SimpleReadings.{is_plain}
-use Rattle.htmd_law_returning.proofs.WordsLemmas.{are_words, true-false, from-not, space-bytes}
+use Rattle.htmd_shown.specs.Spaces.{is_white, is_blank_text}
+use Rattle.htmd_law_returning.specs.SettledDocuments.{is_plain, is_plain_text}
+use Rattle.htmd_law_returning.proofs.RunLemmas.{are_spaced, last_is_space, are_spaces}
+use Rattle.htmd_law_returning.proofs.StartLemmas.{false-true, true-false, from-not, space-bytes}
 
 -- ---- tests
 
@@ -37,13 +34,6 @@ first-of false b h e = true-false (sym h ∙ e)
 double-right : (s t : List ℕ) → has_double_space (s ++ t) ≡ false → has_double_space t ≡ false
 double-right [] t h = h
 double-right (b ∷ s) t h = double-right s t (neither ((b == space) && first_is space (s ++ t)) _ h).1
-
-first-left : (r x : List ℕ) → first_is space (r ++ x) ≡ false → first_is space r ≡ false
-first-left [] x h = refl
-first-left (b ∷ r) x h = h
-
-ends-right : (s t : List ℕ) → ends_in_space (s ++ t) ≡ false → ends_in_space t ≡ false
-ends-right s t h = first-left (reverse t) (reverse s) (sym (ap (first_is space) (reverse-append s t)) ∙ h)
 
 -- ---- characters
 
@@ -67,97 +57,81 @@ space-before c cs e =
     let same : c ≡ space = grind (arith, nat_tests, e) in
     ap (λ x. encode_utf8 x ++ encode_utf8_all cs) same ∙ ap (λ x. x ++ encode_utf8_all cs) (sym space-bytes)
 
-some-left : (cs : List ℕ) → ends_in_space (space ∷ encode_utf8_all cs) ≡ false → is_empty cs ≡ false
-some-left [] h = true-false h
-some-left (c ∷ cs) h = refl
-
-mutual
-  words-on : (cs : List ℕ) → list_all is_plain cs ≡ true → has_double_space (encode_utf8_all cs) ≡ false
-      → ends_in_space (encode_utf8_all cs) ≡ false → are_words true cs ≡ true
-  words-on [] p d e = refl
-  words-on (c ∷ cs) p d e =
-      let parts = and_parts (is_plain c) (list_all is_plain cs) p in
-      test (c == space)
-      (λ q.
-      let is = space-before c cs q in
-      let spaces = neither (first_is space (encode_utf8_all cs)) (has_double_space (encode_utf8_all cs))
-      (sym (ap has_double_space is) ∙ d) in
-      let last : ends_in_space (space ∷ encode_utf8_all cs) ≡ false = sym (ap ends_in_space is) ∙ e in
-      ap (λ b. cond b (are_words false cs) (not (is_white c) && are_words true cs)) q
-      ∙ words-begin cs parts.1 spaces.1 (ends-right (space ∷ []) (encode_utf8_all cs) last) spaces.0
-      (some-left cs last))
-      (λ q.
-      ap (λ b. cond b (are_words false cs) (not (is_white c) && are_words true cs)) q
-      ∙ (ap (λ b. b && are_words true cs) (plain-black c parts.0 q)
-      ∙ words-on cs parts.1 (double-right (encode_utf8 c) (encode_utf8_all cs) d)
-      (ends-right (encode_utf8 c) (encode_utf8_all cs) e)))
-
-  words-begin : (cs : List ℕ) → list_all is_plain cs ≡ true → has_double_space (encode_utf8_all cs) ≡ false
-      → ends_in_space (encode_utf8_all cs) ≡ false → first_is space (encode_utf8_all cs) ≡ false
-      → is_empty cs ≡ false
-      → are_words false cs ≡ true
-  words-begin [] p d e f some = true-false some
-  words-begin (c ∷ cs) p d e f some =
-      let parts = and_parts (is_plain c) (list_all is_plain cs) p in
-      test (c == space)
-      (λ q. true-false (sym (ap (first_is space) (space-before c cs q)) ∙ f))
-      (λ q.
-      ap (λ b. cond b (false && are_words false cs) (not (is_white c) && are_words true cs)) q
-      ∙ (ap (λ b. b && are_words true cs) (plain-black c parts.0 q)
-      ∙ words-on cs parts.1 (double-right (encode_utf8 c) (encode_utf8_all cs) d)
-      (ends-right (encode_utf8 c) (encode_utf8_all cs) e)))
-
 some-chars : (cs : List ℕ) → is_empty (encode_utf8_all cs) ≡ false → is_empty cs ≡ false
 some-chars [] h = true-false h
 some-chars (c ∷ cs) h = refl
 
 -- ---- texts
 
--- what a text in a paragraph alone is like
-pub record IsWords (s : List ℕ) : Type 0 where
+first-more : (r x : List ℕ) → first_is space r ≡ true → first_is space (r ++ x) ≡ true
+first-more [] x h = false-true h
+first-more (b ∷ r) x h = h
+
+ends-more : (s t : List ℕ) → ends_in_space t ≡ true → ends_in_space (s ++ t) ≡ true
+ends-more s t h = ap (first_is space) (reverse-append s t) ∙ first-more (reverse t) (reverse s) h
+
+spaced-chars : (cs : List ℕ) (p : Bool) → list_all is_plain cs ≡ true
+    → has_double_space (encode_utf8_all cs) ≡ false
+    → (p ≡ true → first_is space (encode_utf8_all cs) ≡ false) → are_spaced p cs ≡ true
+spaced-chars [] p h d f = refl
+spaced-chars (c ∷ cs) p h d f =
+    let parts = and_parts (is_plain c) (list_all is_plain cs) h in
+    test (c == space)
+    (λ q.
+    let is = space-before c cs q in
+    let spaces = neither (first_is space (encode_utf8_all cs)) (has_double_space (encode_utf8_all cs))
+    (sym (ap has_double_space is) ∙ d) in
+    let free : p ≡ false = test p (λ e. true-false (sym (ap (first_is space) is) ∙ f e)) (λ e. e) in
+    ap (λ b. cond b (not p && are_spaced true cs) (not (is_white c) && are_spaced false cs)) q
+    ∙ (ap (λ b. not b && are_spaced true cs) free ∙ spaced-chars cs true parts.1 spaces.1 (λ e. spaces.0)))
+    (λ q.
+    ap (λ b. cond b (not p && are_spaced true cs) (not (is_white c) && are_spaced false cs)) q
+    ∙ (ap (λ b. b && are_spaced false cs) (plain-black c parts.0 q)
+    ∙ spaced-chars cs false parts.1 (double-right (encode_utf8 c) (encode_utf8_all cs) d) (λ e. false-true e)))
+
+last-chars : (cs : List ℕ) (p : Bool) → is_empty cs ≡ false → last_is_space p cs ≡ true
+    → ends_in_space (encode_utf8_all cs) ≡ true
+last-chars [] p some h = true-false some
+last-chars (c ∷ []) p some h = ap ends_in_space (space-before c [] h)
+last-chars (c ∷ d ∷ cs) p some h =
+    ends-more (encode_utf8 c) (encode_utf8_all (d ∷ cs)) (last-chars (d ∷ cs) (c == space) refl h)
+
+white-spaces : (cs : List ℕ) → are_spaces cs ≡ true → list_all is_white cs ≡ true
+white-spaces [] h = refl
+white-spaces (c ∷ cs) h =
+    let parts = and_parts (c == space) (are_spaces cs) h in
+    let same : c ≡ space = grind (arith, nat_tests, parts.0) in
+    ap (λ x. is_white x && list_all is_white cs) same ∙ white-spaces cs parts.1
+
+-- what a normal text is like
+pub record IsLine (s : List ℕ) : Type 0 where
   pub utf8 : IsUtf8 s
   pub shown : shown_text s ≡ s
-  pub words : are_words false (chars s) ≡ true
+  pub bytes : encode_utf8_all (chars s) ≡ s
+  pub some : is_empty (chars s) ≡ false
+  pub spaced : are_spaced false (chars s) ≡ true
+  pub begins : first_is space s ≡ false → are_spaced true (chars s) ≡ true
+  pub ends : last_is_space false (chars s) ≡ true → ends_in_space s ≡ true
+  pub blank : are_spaces (chars s) ≡ true → is_blank_text s ≡ true
 
-are-words : (s : List ℕ) → list_all is_plain (chars s) ≡ true → is_text s ≡ true
-    → first_is space s ≡ false
-    → ends_in_space s ≡ false → IsWords s
-are-words s p h f e =
+pub text-line : (s : List ℕ) → is_plain_text s ≡ true → is_text s ≡ true → IsLine s
+text-line s p h =
     let parts = and_parts (is_line s && not (is_empty s)) (not (has_double_space s)) h in
     let some = and_parts (is_line s) (not (is_empty s)) parts.0 in
     let line = and_parts (is_utf8 s) (list_all is_line_byte s) some.0 in
     let u : IsUtf8 s = IsUtf8-from_is_utf8 s line.0 in
     let same : encode_utf8_all (chars s) ≡ s = encodes-chars s u in
+    let single : has_double_space (encode_utf8_all (chars s)) ≡ false =
+    ap has_double_space same ∙ from-not (has_double_space s) parts.1 in
+    let filled : is_empty (chars s) ≡ false =
+    some-chars (chars s) (ap is_empty same ∙ from-not (is_empty s) some.1) in
     record {
       utf8 = u;
       shown = ap encode_utf8_all (plain-shows (chars s) p) ∙ same;
-      words = words-begin (chars s) p
-          (ap has_double_space same ∙ from-not (has_double_space s) parts.1)
-          (ap ends_in_space same ∙ e)
-          (ap (first_is space) same ∙ f)
-          (some-chars (chars s) (ap is_empty same ∙ from-not (is_empty s) some.1));
+      bytes = same;
+      some = filled;
+      spaced = spaced-chars (chars s) false p single (λ e. false-true e);
+      begins = λ f. spaced-chars (chars s) true p single (λ e. ap (first_is space) same ∙ f);
+      ends = λ e. sym (ap ends_in_space same) ∙ last-chars (chars s) false filled e;
+      blank = white-spaces (chars s);
     }
-
-pub line-words : (s : List ℕ) → list_all is_plain (chars s) ≡ true
-    → is_normal_line (one_inline (text s)) ≡ true → IsWords s
-line-words s p h =
-    let ends : Bool = not (first_is space s) && not (ends_in_space s) in
-    let parts = and_parts ((ends && true) && true) ((is_text s && true) && true) h in
-    let trimmed = and_parts (not (first_is space s)) (not (ends_in_space s))
-    (and_parts ends true (and_parts (ends && true) true parts.0).0).0 in
-    are-words s p (and_parts (is_text s) true (and_parts (is_text s && true) true parts.1).0).0
-    (from-not (first_is space s) trimmed.0) (from-not (ends_in_space s) trimmed.1)
-
-pub paragraph-words : (s : List ℕ) → list_all is_plain (chars s) ≡ true
-    → is_normal_paragraph false (one_inline (text s)) ≡ true → IsWords s
-paragraph-words s p h =
-    line-words s p (and_parts (is_normal_line (one_inline (text s)))
-    (are_anchors (one_inline (text s)) || anchors_stand_well (one_inline (text s))) h).0
-
-pub heading-words : (level : ℕ) (s : List ℕ) → list_all is_plain (chars s) ≡ true
-    → is_normal_heading level (one_inline (text s)) ≡ true → (is_level level ≡ true) × IsWords s
-heading-words level s p h =
-    let line : Bool = is_normal_line (one_inline (text s)) in
-    let parts = and_parts ((is_level level && true) && line) (anchors_stand_well (one_inline (text s))) h in
-    let own = and_parts (is_level level && true) line parts.0 in
-    ((and_parts (is_level level) true own.0).0, line-words s p own.1)

@@ -1,4 +1,5 @@
--- The page of what is read of Markdown, what is simple in that, and the law that the page's document is what was read.
+-- The page of what is read of Markdown, what is settled, and the law that the page's document is what was read.
 pub mod RenderedPages
-pub mod SimpleReadings
+pub mod RawReadings
+pub mod SettledDocuments
 pub mod ReturningLaws

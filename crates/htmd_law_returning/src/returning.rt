@@ -1,7 +1,8 @@
 //! What is read comes back from its page.
-ghost use Rattle.htmd_law_returning.specs.ReturningLaws.{SimpleReturns};
+ghost use Rattle.htmd_law_returning.specs.ReturningLaws.{SettledReturns};
 
-/// The document of the page of what is read is what was read, if that is simple and a normal document.
-pub fn simple_returns()
-    ensures { SimpleReturns }
+/// The document of the page of what is read is what was read, if that is a normal and settled document without raw
+/// tags.
+pub fn settled_returns()
+    ensures { SettledReturns }
 {}

@@ -1,0 +1,190 @@
+-- Inlines put after inlines, at the place where a line goes on.
+use Rattle.std.proofs.Common.{◌≡◌, ℕ, suc, Bool, true, false, List, [], ◌∷◌, ◌++◌, map, take, refl}
+use Rattle.std.proofs.Common.{sym, ap, ◌∙◌}
+use Rattle.std.proofs.lemmas.List.{append_assoc}
+use Rattle.htmd_document.specs.Documents.{Inline, text, code, formatted, link, image, anchor, line_break, task}
+use Rattle.htmd_document.specs.Documents.{Inlines, no_inlines, inline}
+use Rattle.htmd_document.specs.Formats.{Format}
+use Rattle.htmd_document.specs.NormalInlines.{has_none}
+use Rattle.htmd_flow.specs.Nesting.{Wrapper, wrapper_of, shared, text_or_code, one_inline, met}
+use Rattle.htmd_flow.specs.Nesting.{joined, in_last, behind}
+use Rattle.htmd_flow.specs.Parts as part
+use Rattle.htmd_flow.specs.Parts.{Around}
+use Rattle.htmd_flow.proofs.ParagraphsLemmas.{alike-wrapper}
+use Rattle.htmd_law_returning.proofs.StartLemmas.{true-false}
+
+-- inlines and then others
+abbrev pub appended : Inlines → Inlines → Inlines
+appended no_inlines ys = ys
+appended (inline x xs) ys = inline x (appended xs ys)
+
+pub appended-assoc : (xs ys zs : Inlines) → appended (appended xs ys) zs ≡ appended xs (appended ys zs)
+appended-assoc no_inlines ys zs = refl
+appended-assoc (inline x xs) ys zs = ap (inline x) (appended-assoc xs ys zs)
+
+pub appended-none : (xs : Inlines) → appended xs no_inlines ≡ xs
+appended-none no_inlines = refl
+appended-none (inline x xs) = ap (inline x) (appended-none xs)
+
+-- ---- what meets
+
+-- two texts or two codes
+abbrev pub is_merging : Inline → Inline → Bool
+is_merging (text s) (text t) = true
+is_merging (code s) (code t) = true
+is_merging x y = false
+
+pub met-apart : (x y : Inline) → is_merging x y ≡ false → met x y ≡ inline x (one_inline y)
+met-apart (text s) (text t) h = true-false h
+met-apart (text s) (code t) h = refl
+met-apart (text s) (formatted f c) h = refl
+met-apart (text s) (link a t c) h = refl
+met-apart (text s) (image a t d) h = refl
+met-apart (text s) (anchor id) h = refl
+met-apart (text s) line_break h = refl
+met-apart (text s) (task d) h = refl
+met-apart (code s) (text t) h = refl
+met-apart (code s) (code t) h = true-false h
+met-apart (code s) (formatted f c) h = refl
+met-apart (code s) (link a t c) h = refl
+met-apart (code s) (image a t d) h = refl
+met-apart (code s) (anchor id) h = refl
+met-apart (code s) line_break h = refl
+met-apart (code s) (task d) h = refl
+met-apart (formatted f c) y h = refl
+met-apart (link a t c) y h = refl
+met-apart (image a t d) y h = refl
+met-apart (anchor id) y h = refl
+met-apart line_break y h = refl
+met-apart (task d) y h = refl
+
+pub joined-last : (xs : Inlines) (x y : Inline) → joined (appended xs (one_inline x)) y ≡ appended xs (met x y)
+joined-last no_inlines x y = refl
+joined-last (inline a no_inlines) x y = refl
+joined-last (inline a (inline b xs)) x y = ap (inline a) (joined-last (inline b xs) x y)
+
+pub joined-apart : (xs : Inlines) (x y : Inline) → is_merging x y ≡ false
+    → joined (appended xs (one_inline x)) y ≡ appended (appended xs (one_inline x)) (one_inline y)
+joined-apart xs x y h =
+    joined-last xs x y
+    ∙ (ap (appended xs) (met-apart x y h) ∙ sym (appended-assoc xs (one_inline x) (one_inline y)))
+
+joined-some : (xs : Inlines) (y : Inline) → has_none (joined xs y) ≡ false
+joined-some no_inlines y = refl
+joined-some (inline (text s) no_inlines) (text t) = refl
+joined-some (inline (text s) no_inlines) (code t) = refl
+joined-some (inline (text s) no_inlines) (formatted f c) = refl
+joined-some (inline (text s) no_inlines) (link a t c) = refl
+joined-some (inline (text s) no_inlines) (image a t d) = refl
+joined-some (inline (text s) no_inlines) (anchor id) = refl
+joined-some (inline (text s) no_inlines) line_break = refl
+joined-some (inline (text s) no_inlines) (task d) = refl
+joined-some (inline (code s) no_inlines) (text t) = refl
+joined-some (inline (code s) no_inlines) (code t) = refl
+joined-some (inline (code s) no_inlines) (formatted f c) = refl
+joined-some (inline (code s) no_inlines) (link a t c) = refl
+joined-some (inline (code s) no_inlines) (image a t d) = refl
+joined-some (inline (code s) no_inlines) (anchor id) = refl
+joined-some (inline (code s) no_inlines) line_break = refl
+joined-some (inline (code s) no_inlines) (task d) = refl
+joined-some (inline (formatted f c) no_inlines) y = refl
+joined-some (inline (link a t c) no_inlines) y = refl
+joined-some (inline (image a t d) no_inlines) y = refl
+joined-some (inline (anchor id) no_inlines) y = refl
+joined-some (inline line_break no_inlines) y = refl
+joined-some (inline (task d) no_inlines) y = refl
+joined-some (inline x (inline x' xs)) y = refl
+
+joined-inner : (x : Inline) (xs : Inlines) (y : Inline) → has_none xs ≡ false
+    → joined (inline x xs) y ≡ inline x (joined xs y)
+joined-inner x no_inlines y h = true-false h
+joined-inner x (inline z xs) y h = refl
+
+in-last-inner : (change : Inlines → Inlines) (x : Inline) (xs : Inlines) → has_none xs ≡ false
+    → in_last change (inline x xs) ≡ inline x (in_last change xs)
+in-last-inner change x no_inlines h = true-false h
+in-last-inner change x (inline z xs) h = refl
+
+-- a text in two, and a code in two
+met-twice : (k : Bool) (x : Inline) (s t : List ℕ)
+    → joined (met x (text_or_code k s)) (text_or_code k t) ≡ met x (text_or_code k (s ++ t))
+met-twice true (text u) s t = refl
+met-twice true (code u) s t = ap (λ v. one_inline (code v)) (append_assoc u s t)
+met-twice true (formatted f c) s t = refl
+met-twice true (link a u c) s t = refl
+met-twice true (image a u d) s t = refl
+met-twice true (anchor id) s t = refl
+met-twice true line_break s t = refl
+met-twice true (task d) s t = refl
+met-twice false (text u) s t = ap (λ v. one_inline (text v)) (append_assoc u s t)
+met-twice false (code u) s t = refl
+met-twice false (formatted f c) s t = refl
+met-twice false (link a u c) s t = refl
+met-twice false (image a u d) s t = refl
+met-twice false (anchor id) s t = refl
+met-twice false line_break s t = refl
+met-twice false (task d) s t = refl
+
+pub joined-twice : (k : Bool) (xs : Inlines) (s t : List ℕ)
+    → joined (joined xs (text_or_code k s)) (text_or_code k t) ≡ joined xs (text_or_code k (s ++ t))
+joined-twice true no_inlines s t = refl
+joined-twice false no_inlines s t = refl
+joined-twice k (inline x no_inlines) s t = met-twice k x s t
+joined-twice k (inline x (inline y xs)) s t =
+    joined-inner x (joined (inline y xs) (text_or_code k s)) (text_or_code k t)
+    (joined-some (inline y xs) (text_or_code k s))
+    ∙ ap (inline x) (joined-twice k (inline y xs) s t)
+
+-- ---- where a line goes on
+
+-- in so many formats, and in as many more
+abbrev pub deep : List Around → ℕ → ℕ
+deep [] m = m
+deep (a ∷ around) m = suc (deep around m)
+
+pub shared-deep : (around : List Around) (ms ns : List Wrapper)
+    → shared (map wrapper_of around ++ ms) (map wrapper_of around ++ ns) ≡ deep around (shared ms ns)
+shared-deep [] ms ns = refl
+shared-deep (a ∷ around) ms ns = rw (alike-wrapper (wrapper_of a)) (ap suc (shared-deep around ms ns))
+
+pub take-deep : (around more : List Around) → take (deep around 0) (around ++ more) ≡ around
+take-deep [] more = refl
+take-deep (a ∷ around) more = ap (λ x. a ∷ x) (take-deep around more)
+
+-- what comes in around a hole stands in the hole
+abbrev pub IsHole : (Inlines → Inlines) → List Around → Type 0
+IsHole put around = (m : ℕ) (xs : Inlines) (inner : List Around) (y : Inline)
+    → behind (deep around m) (put xs) (around ++ inner) y ≡ put (behind m xs inner y)
+
+pub whole-hole : IsHole (λ xs. xs) []
+whole-hole m xs inner y = refl
+
+deep-more : (around : List Around) (a : Around) (m : ℕ) → deep (around ++ a ∷ []) m ≡ deep around (suc m)
+deep-more [] a m = refl
+deep-more (b ∷ around) a m = ap suc (deep-more around a m)
+
+in-last-joined : (change : Inlines → Inlines) (xs : Inlines) (f : Format) (c : Inlines)
+    → in_last change (joined xs (formatted f c)) ≡ joined xs (formatted f (change c))
+in-last-joined change no_inlines f c = refl
+in-last-joined change (inline (text s) no_inlines) f c = refl
+in-last-joined change (inline (code s) no_inlines) f c = refl
+in-last-joined change (inline (formatted g d) no_inlines) f c = refl
+in-last-joined change (inline (link a t d) no_inlines) f c = refl
+in-last-joined change (inline (image a t d) no_inlines) f c = refl
+in-last-joined change (inline (anchor id) no_inlines) f c = refl
+in-last-joined change (inline line_break no_inlines) f c = refl
+in-last-joined change (inline (task d) no_inlines) f c = refl
+in-last-joined change (inline x (inline y xs)) f c =
+    in-last-inner change x (joined (inline y xs) (formatted f c)) (joined-some (inline y xs) (formatted f c))
+    ∙ ap (inline x) (in-last-joined change (inline y xs) f c)
+
+-- one more format
+pub format-hole : (put : Inlines → Inlines) (around : List Around) (xs : Inlines) (f : Format) → IsHole put around
+    → IsHole (λ c. put (joined xs (formatted f c))) (around ++ part.formatted f ∷ [])
+format-hole put around xs f h m c inner y =
+    ap (λ n. behind n (put (joined xs (formatted f c))) ((around ++ part.formatted f ∷ []) ++ inner) y)
+    (deep-more around (part.formatted f) m)
+    ∙ (ap (λ all. behind (deep around (suc m)) (put (joined xs (formatted f c))) all y)
+    (append_assoc around (part.formatted f ∷ []) inner)
+    ∙ (h (suc m) (joined xs (formatted f c)) (part.formatted f ∷ inner) y
+    ∙ ap put (in-last-joined (λ content. behind m content inner y) xs f c)))
