@@ -127,7 +127,7 @@ pub(crate) const OPTIONS: [OptionRow; 62] = [
         value: "",
         setting: Setting::FromMarkdown,
         line: "reads Markdown, and converts its HTML; has --web",
-        help: "reads Markdown, and converts its HTML as a page, by --html5 --guarded: so Markdown in one form",
+        help: "reads Markdown, and converts its HTML as --web converts any page",
     },
     OptionRow {
         group: Group::Input,
