@@ -19,7 +19,7 @@ use Rattle.htmd_law_html5.specs.StrictReferences.{Place, has_bare_reference, is_
 use Rattle.htmd_law_html5.specs.StrictReferences.{place_after}
 use Rattle.htmd_commonmark_reading.specs.Rendering.{escaped_byte, escaped}
 use Rattle.htmd_law_rendering.specs.SpelledTrees.{Spelled, SpelledForest, text, element, none, more, value_in}
-use Rattle.htmd_law_rendering.specs.SpelledTrees.{attribute_in, has_slash, tag_end, tag, spelled, all_spelled}
+use Rattle.htmd_law_rendering.specs.SpelledTrees.{attribute_in, TagForm, spaced, slashed, short, end_of_void, tag_end, tag, spelled, all_spelled}
 use Rattle.htmd_law_rendering.proofs.SpellingLemmas.{element-spelled, void-spelled}
 use Rattle.htmd_law_rendering.proofs.TagLemmas.{IsTreeName, AreTreeKeys}
 use Rattle.htmd_law_rendering.proofs.FittingLemmas.{FitsTree, Fits}
@@ -132,11 +132,15 @@ pairs-clean n (a ∷ attributes) k =
     (plain (codes "\"") refl))
     (pairs-clean n attributes k.3)
 
-tag_end-clean : (s : Bool) (n : List ℕ) → KeepsClean (tag_end s n)
-tag_end-clean s n =
-    test (has_slash s n) (λ e. rw e (plain (codes " />") refl)) (λ e. rw e (plain (codes ">") refl))
+void-clean : (s : TagForm) → KeepsClean (end_of_void s)
+void-clean spaced = plain (codes " />") refl
+void-clean slashed = plain (codes "/>") refl
+void-clean short = plain (codes ">") refl
 
-tag-clean : (s : Bool) (n : List ℕ) (attributes : List AttributePair) → IsTreeName n → AreTreeKeys attributes
+tag_end-clean : (s : TagForm) (n : List ℕ) → KeepsClean (tag_end s n)
+tag_end-clean s n = test (is_void n) (λ e. rw e (void-clean s)) (λ e. rw e (plain (codes ">") refl))
+
+tag-clean : (s : TagForm) (n : List ℕ) (attributes : List AttributePair) → IsTreeName n → AreTreeKeys attributes
     → KeepsClean (tag s n attributes)
 tag-clean s n attributes t k =
     both (codes "<" ++ n ++ flat_map (attribute_in n) attributes) (tag_end s n)

@@ -1,5 +1,5 @@
 -- Worked rows: the trees of what is read, and what they are spelled as. Each holds by computing.
-use Rattle.std.proofs.Common.{◌≡◌, true, false, List, [], ◌∷◌, ℕ, refl, codes}
+use Rattle.std.proofs.Common.{arith, ◌≡◌, true, false, List, [], ◌∷◌, ℕ, refl, codes}
 use Rattle.std.specs.Fmt.{digits}
 use Rattle.std.specs.Str.{chars}
 use Rattle.htmd_values.specs.Serialisation.{is_void}
@@ -8,7 +8,7 @@ use Rattle.htmd_commonmark_reading.specs.Reading.{read}
 use Rattle.htmd_commonmark_reading.specs.Rendering.{html_of}
 use Rattle.htmd_law_rendering.specs.RenderedTrees.{spelled_of, trees_of, pair}
 use Rattle.htmd_law_rendering.specs.SpelledTrees.{all_spelled, levels}
-use Rattle.htmd_law_rendering.specs.PlainReadings.{blocks_are_paired, blocks_are_strict}
+use Rattle.htmd_law_rendering.specs.PlainReadings.{blocks_are_paired, blocks_are_strict, IsPlain}
 use lib.Utf8.{encode}
 
 abbrev holding : List ℕ → ValueForest → ValueForest → ValueForest
@@ -89,6 +89,15 @@ unfolding chars
 described = refl
 
 -- ---- what is plain
+
+pub a_plain_reading : IsPlain (read (codes "- a <u>b</u>"))
+unfolding chars digits is_void
+a_plain_reading = record {
+  paired = refl;
+  strict = refl;
+  no_returns = refl;
+  shallow = omega arith;
+}
 
 -- a table's cell is the fourth element from outside, and its text the fifth
 pub a_table : levels (spelled_of (read (codes "|a|\n|-|\n"))) ≡ 5

@@ -19,7 +19,7 @@ use Rattle.htmd_grammar.specs.RawContent.{content_of, holds_raw_text, holds_text
 use Rattle.htmd_grammar.specs.Rules.{project}
 use Rattle.htmd_grammar.proofs.ReadBackLemmas.{lacking_run}
 use Rattle.htmd_commonmark_reading.specs.Rendering.{escaped}
-use Rattle.htmd_law_rendering.specs.SpelledTrees.{Spelled, SpelledForest, text, element, none, more, value_tree}
+use Rattle.htmd_law_rendering.specs.SpelledTrees.{TagForm, Spelled, SpelledForest, text, element, none, more, value_tree}
 use Rattle.htmd_law_rendering.specs.SpelledTrees.{value_forest, attribute_in, tag_end, tag, spelled, all_spelled}
 use Rattle.htmd_law_rendering.specs.SpelledTrees.{levels_of, levels}
 use Rattle.htmd_law_rendering.proofs.DecodeLemmas.{lacks-parts, text-lacks, text-denotes}
@@ -69,7 +69,7 @@ module _ (scripting : Bool) where
     Fits c none = ⊤
     Fits c (more t ts) = FitsTree c t × AreApart t ts × Fits c ts
 
-  tag-pairs : (k : Bool) (n : List ℕ) (attributes : List AttributePair) → AreTreeKeys attributes
+  tag-pairs : (k : TagForm) (n : List ℕ) (attributes : List AttributePair) → AreTreeKeys attributes
       → lacks 13 (tag k n attributes) ≡ true → AreTreePairs attributes
   tag-pairs k n attributes h l =
       let p = lacks-parts 13 (codes "<" ++ n ++ flat_map (attribute_in n) attributes) (tag_end k n) l in

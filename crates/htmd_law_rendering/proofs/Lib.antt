@@ -1,4 +1,5 @@
 -- The lemmas of the laws.
+pub mod RawNames
 pub mod ByteLemmas
 pub mod SpellingLemmas
 pub mod RawLemmas
@@ -12,4 +13,10 @@ pub mod StrictBlocks
 pub mod CleanLemmas
 pub mod PlainTreeLemmas
 pub mod ParsedLemmas
+pub mod PairedLemmas
+pub mod PairedBlocks
+pub mod StrictSeen
+pub mod StrictDocuments
+pub mod StrictDocumentBlocks
+pub mod DocumentLemmas
 mod Examples

@@ -13,7 +13,7 @@ use Rattle.htmd_grammar.specs.Nesting.{is_heading}
 use Rattle.htmd_grammar.specs.RawContent.{holds_raw_text, holds_text_alone}
 use Rattle.std.specs.List.{list_all}
 use Rattle.std.specs.Str.{bytes_eq}
-use Rattle.htmd_law_rendering.specs.RawTags.{raw_names}
+use Rattle.htmd_law_rendering.proofs.RawNames.{raw_names}
 use Rattle.htmd_law_rendering.specs.RenderedTrees.{format_name, heading_name, list_name}
 
 -- the innermost element takes texts and elements of lines

@@ -8,7 +8,7 @@ use Rattle.htmd_lexical.specs.ByteOrderMarks.{behind_mark}
 use Rattle.htmd_lexical.specs.CharacterClasses.{is_among}
 use Rattle.htmd_document.specs.Formats.{Format, Emphasis, Strong, Deleted, Superscript, Subscript, Inserted, Underlined}
 use Rattle.htmd_document.specs.Formats.{Marked, Small, Keyboard, Abbreviation}
-use Rattle.htmd_law_rendering.specs.SpelledTrees.{SpelledForest, text, element, none, more, value_forest}
+use Rattle.htmd_law_rendering.specs.SpelledTrees.{TagForm, spaced, short, SpelledForest, text, element, none, more, value_forest}
 use Rattle.htmd_values.specs.Serialisation.{is_void}
 use Rattle.htmd_grammar.proofs.NestingLemmas.{among_passes}
 use Rattle.htmd_law_html5.specs.StrictTrees.{is_plain_element, are_plain, head_names}
@@ -18,7 +18,7 @@ use Rattle.htmd_commonmark_reading.specs.Markup.{thematic_break, list, table, ht
 use Rattle.htmd_commonmark_reading.specs.Markup.{Items, no_items, item, plain_text}
 use Rattle.htmd_commonmark_reading.specs.Rendering.{is_bare}
 use Rattle.htmd_law_rendering.specs.SpelledTrees.{all_spelled}
-use Rattle.htmd_law_rendering.specs.RawTags.{RawTag, opening, closing, breaking, unknown, raw_names, raw_tag}
+use Rattle.htmd_law_rendering.specs.RawTags.{RawTag, opening, closing, breaking, unknown, raw_tag}
 use Rattle.htmd_law_rendering.specs.RenderedTrees.{text_before, element_before, line_end, format_name, pairs_of_format}
 use Rattle.htmd_law_rendering.specs.RenderedTrees.{pairs_of_link, pairs_of_image, pairs_of_box, Behind, Open, opened}
 use Rattle.htmd_law_rendering.specs.RenderedTrees.{with_raw, inlines_open, inlines_trees, heading_name}
@@ -28,6 +28,7 @@ use Rattle.htmd_law_rendering.specs.RenderedTrees.{spelled_of}
 use Rattle.htmd_law_rendering.specs.PlainReadings.{are_strict, block_is_strict, blocks_are_strict, items_are_strict}
 use Rattle.htmd_law_rendering.specs.PlainReadings.{block_is_paired, block_has_no_table, blocks_have_no_table}
 use Rattle.htmd_law_rendering.specs.PlainReadings.{items_have_no_table}
+use Rattle.htmd_law_rendering.proofs.RawNames.{raw_names}
 use Rattle.htmd_law_rendering.proofs.RawLemmas.{IsRaw, raw-is}
 use Rattle.htmd_law_rendering.proofs.PlaceLemmas.{by_level}
 
@@ -43,7 +44,7 @@ text-plain (b ∷ s) (more (element k n attributes ks) ts) h = h
 line-plain : (ts : SpelledForest) → ArePlain ts → ArePlain (line_end ts)
 line-plain ts h = text-plain (codes "\n") ts h
 
-element-plain : (k : Bool) (n : List ℕ) (attributes : List AttributePair) (ks ts : SpelledForest)
+element-plain : (k : TagForm) (n : List ℕ) (attributes : List AttributePair) (ks ts : SpelledForest)
     → is_plain_element n ≡ true → ArePlain ks → ArePlain ts → ArePlain (more (element k n attributes ks) ts)
 element-plain k n attributes ks ts e h f = rw (e, h, f) refl
 
@@ -131,12 +132,12 @@ opened-plain : (n : List ℕ) (attributes : List AttributePair) (first : Spelled
     → PlainOpen (opened n attributes first behind)
 opened-plain n attributes first [] e h f = (h, tt)
 opened-plain n attributes first (b ∷ bs) e h f =
-    (element-plain false n attributes first b.trees (raw-plain n e) h f.0, f.1)
+    (element-plain spaced n attributes first b.trees (raw-plain n e) h f.0, f.1)
 
 with_raw-plain : (r : RawTag) (s : List ℕ) (o : Open) → IsRaw s r → PlainOpen o → PlainOpen (with_raw r o)
 with_raw-plain (opening n attributes) s o w h = opened-plain n attributes o.first o.behind w.2 h.0 h.1
 with_raw-plain (closing n) s o w h = (refl, h)
-with_raw-plain breaking s o w h = (element-plain true (codes "br") [] none o.first br-plain refl h.0, h.1)
+with_raw-plain (breaking form) s o w h = (element-plain form (codes "br") [] none o.first br-plain refl h.0, h.1)
 with_raw-plain unknown s o w h = h
 
 open-plain : (xs : Inlines) (rest : SpelledForest) → ArePlain rest → PlainOpen (inlines_open xs rest)
@@ -145,36 +146,36 @@ open-plain (letter c xs) rest h =
     let i = open-plain xs rest h in (text-plain (c ∷ []) (inlines_open xs rest).first i.0, i.1)
 open-plain (code s xs) rest h =
     let i = open-plain xs rest h in (
-      element-plain false (codes "code") [] (text_before s none) (inlines_open xs rest).first code-plain
+      element-plain spaced (codes "code") [] (text_before s none) (inlines_open xs rest).first code-plain
           (text-plain s none refl) i.0,
       i.1,
     )
 open-plain (formatted f content xs) rest h =
     let i = open-plain xs rest h in (
-      element-plain false (format_name f) (pairs_of_format f) (inlines_open content none).first
+      element-plain spaced (format_name f) (pairs_of_format f) (inlines_open content none).first
           (inlines_open xs rest).first (format-plain f) (open-plain content none refl).0 i.0,
       i.1,
     )
 open-plain (link a t content xs) rest h =
     let i = open-plain xs rest h in (
-      element-plain false (codes "a") (pairs_of_link a t) (inlines_open content none).first
+      element-plain spaced (codes "a") (pairs_of_link a t) (inlines_open content none).first
           (inlines_open xs rest).first a-plain (open-plain content none refl).0 i.0,
       i.1,
     )
 open-plain (image a t content xs) rest h =
     let i = open-plain xs rest h in (
-      element-plain false (codes "img") (pairs_of_image a t (plain_text content)) none (inlines_open xs rest).first
+      element-plain spaced (codes "img") (pairs_of_image a t (plain_text content)) none (inlines_open xs rest).first
           img-plain refl i.0,
       i.1,
     )
 open-plain (line_break xs) rest h =
     let i = open-plain xs rest h in
     let o = inlines_open xs rest in
-    (element-plain false (codes "br") [] none (line_end o.first) br-plain refl (line-plain o.first i.0), i.1)
+    (element-plain spaced (codes "br") [] none (line_end o.first) br-plain refl (line-plain o.first i.0), i.1)
 open-plain (task d xs) rest h =
     let i = open-plain xs rest h in
     let o = inlines_open xs rest in (
-      element-plain true (codes "input") (pairs_of_box d) none (text_before (codes " ") o.first) input-plain refl
+      element-plain short (codes "input") (pairs_of_box d) none (text_before (codes " ") o.first) input-plain refl
           (text-plain (codes " ") o.first i.0),
       i.1,
     )
@@ -199,24 +200,24 @@ mutual
       → block_has_no_table b ≡ true → ArePlain rest → ArePlain (block_trees tight b rest)
   block-plain true (paragraph xs) rest s t h = inlines-plain xs rest h
   block-plain false (paragraph xs) rest s t h =
-      element-plain false (codes "p") [] (inlines_trees xs none) (line_end rest) p-plain (inlines-plain xs none refl)
+      element-plain spaced (codes "p") [] (inlines_trees xs none) (line_end rest) p-plain (inlines-plain xs none refl)
       (line-plain rest h)
   block-plain tight (heading level xs) rest s t h =
       let p = and_parts (nat_le 1 level && nat_le level 6) (are_strict false xs) s in
       let q = and_parts (nat_le 1 level) (nat_le level 6) p.0 in
-      element-plain false (heading_name level) [] (inlines_trees xs none) (line_end rest) (heading-plain level q.0 q.1)
+      element-plain spaced (heading_name level) [] (inlines_trees xs none) (line_end rest) (heading-plain level q.0 q.1)
       (inlines-plain xs none refl) (line-plain rest h)
   block-plain tight (code_block language u) rest s t h =
-      element-plain false (codes "pre") [] (code_block_tree language u) (line_end rest) pre-plain
-      (element-plain false (codes "code") (pairs_of_language language) (code_trees u) none code-plain
+      element-plain spaced (codes "pre") [] (code_block_tree language u) (line_end rest) pre-plain
+      (element-plain spaced (codes "code") (pairs_of_language language) (code_trees u) none code-plain
       (code_text-plain u) refl) (line-plain rest h)
   block-plain tight (quote bs) rest s t h =
-      element-plain false (codes "blockquote") [] (line_end (blocks_trees false false bs)) (line_end rest) quote-plain
+      element-plain spaced (codes "blockquote") [] (line_end (blocks_trees false false bs)) (line_end rest) quote-plain
       (line-plain (blocks_trees false false bs) (blocks-plain false false bs s t)) (line-plain rest h)
   block-plain tight thematic_break rest s t h =
-      element-plain false (codes "hr") [] none (line_end rest) hr-plain refl (line-plain rest h)
+      element-plain spaced (codes "hr") [] none (line_end rest) hr-plain refl (line-plain rest h)
   block-plain tight (list start is_tight items) rest s t h =
-      element-plain false (list_name start) (pairs_of_start start) (line_end (items_trees is_tight items))
+      element-plain spaced (list_name start) (pairs_of_start start) (line_end (items_trees is_tight items))
       (line_end rest) (list-plain start) (line-plain (items_trees is_tight items) (items-plain is_tight items s t))
       (line-plain rest h)
   block-plain tight (table alignments header rs) rest s t h = absurd (cc)
@@ -238,7 +239,7 @@ mutual
   items-plain tight (item bs rest) s t =
       let p = and_parts (blocks_are_strict bs) (items_are_strict rest) s in
       let q = and_parts (blocks_have_no_table bs) (items_have_no_table rest) t in
-      element-plain false (codes "li") [] (blocks_trees tight true bs) (line_end (items_trees tight rest)) li-plain
+      element-plain spaced (codes "li") [] (blocks_trees tight true bs) (line_end (items_trees tight rest)) li-plain
       (blocks-plain tight true bs p.0 q.0) (line-plain (items_trees tight rest) (items-plain tight rest p.1 q.1))
 
 pub trees-plain : (bs : Blocks) → blocks_are_strict bs ≡ true → blocks_have_no_table bs ≡ true

@@ -5,18 +5,20 @@ use Rattle.std.specs.List.{list_all}
 use Rattle.std.specs.Prelude.{⊤, not, ◌&&◌}
 use Rattle.std.specs.Str.{bytes_eq}
 use Rattle.std.proofs.lemmas.Bool.{and_parts, not-true}
-use Rattle.std.proofs.lemmas.List.{append_assoc}
+use Rattle.std.proofs.lemmas.List.{append_assoc, append-nil}
 use Rattle.htmd_lexical.proofs.BytesLemmas.{same_bytes}
 use Rattle.htmd_lexical.proofs.Cases.{test}
 use Rattle.htmd_lexical.specs.AttributePairs.{AttributePair}
 use Rattle.htmd_lexical.specs.Attributes.{attribute_names}
 use Rattle.htmd_lexical.specs.CharacterClasses.{are_distinct, is_among}
-use Rattle.htmd_values.specs.Serialisation.{is_void, start_tag, end_tag}
-use Rattle.htmd_document.specs.Tags.{anchor_tag, abbreviation_tag, escaped_value}
+use Rattle.htmd_values.specs.Serialisation.{is_void, end_tag}
+use Rattle.htmd_document.specs.Tags.{anchor_tag, abbreviation_tag, escaped_value, end_of_anchor}
 use Rattle.htmd_commonmark_reading.specs.Anchors.{value, anchor_id, abbreviation_title}
-use Rattle.htmd_law_rendering.specs.SpelledTrees.{SpelledForest, tag, all_spelled}
-use Rattle.htmd_law_rendering.specs.RawTags.{RawTag, opening, closing, breaking, unknown, raw_names, tag_among}
-use Rattle.htmd_law_rendering.specs.RawTags.{tag_by_title, tag_by_id, raw_tag}
+use Rattle.htmd_commonmark_reading.specs.SeenMarkup.{Tag, tags, abbreviation, closing_tag, role_among, role_by_title}
+use Rattle.htmd_law_rendering.specs.RawTags.{RawTag, opening, closing, breaking, unknown, pairs_of, tag_by_role}
+use Rattle.htmd_law_rendering.specs.RawTags.{tag_by_id, raw_tag}
+use Rattle.htmd_law_rendering.proofs.RawNames.{raw_names}
+use Rattle.htmd_law_rendering.specs.SpelledTrees.{spaced, SpelledForest, tag, all_spelled}
 use Rattle.htmd_law_rendering.specs.RenderedTrees.{Behind, Open, opened, with_raw}
 use Rattle.htmd_law_rendering.specs.PlainReadings.{opened_names, names_with}
 use Rattle.htmd_law_rendering.proofs.TagLemmas.{AreTreeKeys}
@@ -27,32 +29,68 @@ use Rattle.htmd_law_rendering.proofs.SpellingLemmas.{element-spelled, titled}
 -- what a raw tag is spelled as, and that its element may stand in lines
 abbrev pub IsRaw : List ℕ → RawTag → Type 0
 IsRaw s (opening n attributes) =
-    (s ≡ tag false n attributes) × (is_void n ≡ false) × (is_among raw_names n ≡ true)
+    (s ≡ tag spaced n attributes) × (is_void n ≡ false) × (is_among raw_names n ≡ true)
     × AreTreeKeys attributes × (are_distinct (attribute_names attributes) ≡ true)
 IsRaw s (closing n) = (s ≡ end_tag n) × (is_among raw_names n ≡ true)
-IsRaw s breaking = s ≡ codes "<br>"
+IsRaw s (breaking form) = s ≡ tag form (codes "br") []
 IsRaw s unknown = ⊤
 
-bare_tag : (n : List ℕ) → is_void n ≡ false → start_tag n [] ≡ tag false n []
-bare_tag n v = rw v refl
+abbrev has_no_pairs : List AttributePair → Bool
+has_no_pairs [] = true
+has_no_pairs (a ∷ attributes) = false
 
-abbrev is_raw_name : List ℕ → Bool
-is_raw_name n = not (is_void n) && is_among raw_names n
+-- a tag without attributes
+abbrev is_bare : Tag → Bool
+is_bare t =
+    bytes_eq t.open_tag (codes "<" ++ t.name ++ codes ">") && not (is_void t.name) && is_among raw_names t.name
+    && has_no_pairs (pairs_of t.pair)
 
-among : (ns : List (List ℕ)) (s : List ℕ) → list_all is_raw_name ns ≡ true → IsRaw s (tag_among ns s)
-among [] s h = test (bytes_eq s (codes "<br>")) (λ e. rw e (same_bytes s (codes "<br>") e)) (λ e. rw e tt)
-among (n ∷ ns) s h =
-    let p = and_parts (is_raw_name n) (list_all is_raw_name ns) h in
-    let q = and_parts (not (is_void n)) (is_among raw_names n) p.0 in
-    let v = not-true (is_void n) q.0 in
-    test (bytes_eq s (start_tag n []))
-    (λ e. rw e (same_bytes s (start_tag n []) e ∙ bare_tag n v, v, q.1, tt, refl))
-    (λ e. test (bytes_eq s (end_tag n)) (λ f. rw (e, f) (same_bytes s (end_tag n) f, q.1))
-    (λ f. rw (e, f) (among ns s p.1)))
+no-pairs : (attributes : List AttributePair) → has_no_pairs attributes ≡ true → attributes ≡ []
+no-pairs [] e = refl
+no-pairs (a ∷ attributes) e = absurd (cc)
 
-by_title : (o : Option (List ℕ)) (s : List ℕ) → abbreviation_title s ≡ o → IsRaw s (tag_by_title o s)
+bare_tag : (n : List ℕ) → is_void n ≡ false → codes "<" ++ n ++ codes ">" ≡ tag spaced n []
+bare_tag n v = rw v (ap (λ x. x ++ codes ">") (sym (append-nil (codes "<" ++ n))))
+
+a_break : (s : List ℕ) → IsRaw s (tag_by_role s (role_among [] s))
 unfolding is_void
-by_title None s e = among raw_names s refl
+a_break s =
+    test (bytes_eq s (codes "<br>")) (λ e. rw (e, e) (same_bytes s (codes "<br>") e)) (λ e.
+    test (bytes_eq s (codes "<br/>")) (λ f. rw (e, f, e, f) (same_bytes s (codes "<br/>") f)) (λ f.
+    test (bytes_eq s (codes "<br />")) (λ g. rw (e, f, g, e, f) (same_bytes s (codes "<br />") g)) (λ g.
+    rw (e, f, g) tt)))
+
+by_names : (ts : List Tag) (s : List ℕ) → list_all is_bare ts ≡ true → IsRaw s (tag_by_role s (role_among ts s))
+by_names [] s h = a_break s
+by_names (t ∷ ts) s h =
+    let p = and_parts (is_bare t) (list_all is_bare ts) h in
+    let q = and_parts (bytes_eq t.open_tag (codes "<" ++ t.name ++ codes ">") && not (is_void t.name)
+    && is_among raw_names t.name) (has_no_pairs (pairs_of t.pair)) p.0 in
+    let r = and_parts (bytes_eq t.open_tag (codes "<" ++ t.name ++ codes ">") && not (is_void t.name))
+    (is_among raw_names t.name) q.0 in
+    let u = and_parts (bytes_eq t.open_tag (codes "<" ++ t.name ++ codes ">")) (not (is_void t.name)) r.0 in
+    let v = not-true (is_void t.name) u.1 in
+    let none = no-pairs (pairs_of t.pair) q.1 in
+    test (bytes_eq t.open_tag s)
+    (λ e. rw e (
+      sym (same_bytes t.open_tag s e)
+          ∙ (same_bytes t.open_tag (codes "<" ++ t.name ++ codes ">") u.0
+          ∙ (bare_tag t.name v ∙ ap (tag spaced t.name) (sym none))),
+      v,
+      r.1,
+      subst AreTreeKeys (sym none) tt,
+      ap (λ attributes. are_distinct (attribute_names attributes)) none,
+    ))
+    (λ e. test (bytes_eq (closing_tag t) s) (λ f. rw (e, f) (sym (same_bytes (closing_tag t) s f), r.1))
+    (λ f. rw (e, f) (by_names ts s p.1)))
+
+by_title : (o : Option (List ℕ)) (s : List ℕ) → abbreviation_title s ≡ o
+    → IsRaw s (tag_by_role s (role_by_title o s))
+unfolding is_void
+by_title None s e =
+    test (bytes_eq (closing_tag (abbreviation [])) s)
+    (λ f. rw f (sym (same_bytes (closing_tag (abbreviation [])) s f), refl))
+    (λ f. rw f (by_names tags s refl))
 by_title (Some title) s e = (
   sym found ∙ ap (λ x. codes "<abbr title=\"" ++ x) (sym (titled (escaped_value title))),
   refl,
@@ -69,7 +107,9 @@ by_title (Some title) s e = (
 
 by_id : (o : Option (List ℕ)) (s : List ℕ) → anchor_id s ≡ o → IsRaw s (tag_by_id o s)
 unfolding is_void
-by_id None s e = by_title (abbreviation_title s) s refl
+by_id None s e =
+    test (bytes_eq s end_of_anchor) (λ f. rw f (same_bytes s end_of_anchor f, refl))
+    (λ f. rw f (by_title (abbreviation_title s) s refl))
 by_id (Some id) s e = (
   sym found ∙ ap (λ x. codes "<a id=\"" ++ x) (sym (titled (escaped_value id))),
   refl,
@@ -129,9 +169,9 @@ opened-ok n attributes s html rest first (b ∷ bs) (m ∷ ms) ns r e f h =
     subst (λ x. all_spelled first ++ ((end_tag x ++ all_spelled b.trees) ++ behind_spelled bs) ≡ html ++ rest)
     name h in (
       same ∙ left,
-      ap (λ x. (x ++ all_spelled b.trees) ++ behind_spelled bs) (element-spelled false n attributes first r.1)
-          ∙ (closed (tag false n attributes) (all_spelled first) (end_tag n) (all_spelled b.trees) (behind_spelled bs)
-          html rest k
+      ap (λ x. (x ++ all_spelled b.trees) ++ behind_spelled bs) (element-spelled spaced n attributes first r.1)
+          ∙ (closed (tag spaced n attributes) (all_spelled first) (end_tag n) (all_spelled b.trees)
+          (behind_spelled bs) html rest k
           ∙ ap (λ x. (x ++ html) ++ rest) (sym r.0)),
     ))
     (λ t. let w = rw t at f in absurd (cc))
@@ -153,10 +193,12 @@ raw-ok (closing n) s html rest o (Some ms) ns k e h =
           ∙ (ap (λ y. end_tag n ++ y) i.1
           ∙ (sym (append_assoc (end_tag n) html rest) ∙ ap (λ y. (y ++ html) ++ rest) (sym k.0))),
     )
-raw-ok breaking s html rest o (Some ms) ns k e h =
+raw-ok (breaking form) s html rest o (Some ms) ns k e h =
     let i = h ms refl in
     let x : ms ≡ ns = cc in (
       i.0 ∙ x,
-      ap (λ y. codes "<br>" ++ y) i.1 ∙ ap (λ y. (y ++ html) ++ rest) (sym k),
+      append_assoc (tag form (codes "br") []) (all_spelled o.first) (behind_spelled o.behind)
+          ∙ (ap (λ y. tag form (codes "br") [] ++ y) i.1
+          ∙ (sym (append_assoc (tag form (codes "br") []) html rest) ∙ ap (λ y. (y ++ html) ++ rest) (sym k))),
     )
 raw-ok unknown s html rest o (Some ms) ns k e h = absurd (cc)

@@ -27,7 +27,7 @@ use Rattle.htmd_law_rendering.specs.RenderedTrees.{row_trees, rows_trees, body_t
 use Rattle.htmd_law_rendering.specs.RenderedTrees.{heading_name, pairs_of_language, code_trees, code_block_tree}
 use Rattle.htmd_law_rendering.specs.RenderedTrees.{list_name, pairs_of_start, begun_line, block_trees, blocks_trees}
 use Rattle.htmd_law_rendering.specs.RenderedTrees.{items_trees}
-use Rattle.htmd_law_rendering.specs.SpelledTrees.{SpelledForest, none, more, element, attribute_in, tag, spelled}
+use Rattle.htmd_law_rendering.specs.SpelledTrees.{spaced, SpelledForest, none, more, element, attribute_in, tag, spelled}
 use Rattle.htmd_law_rendering.specs.SpelledTrees.{all_spelled}
 use Rattle.htmd_law_rendering.specs.PlainReadings.{if_all_opened, unopened, is_nothing_left, are_paired}
 use Rattle.htmd_law_rendering.specs.PlainReadings.{cells_are_paired, rows_are_paired, block_is_paired}
@@ -90,7 +90,7 @@ inlines-open (code s xs) rest ns h =
     let i = inlines-open xs rest ns h in
     let o = inlines_open xs rest in (
       i.0,
-      front (spelled (element false (codes "code") [] (text_before s none))) (code_html s) (all_spelled o.first)
+      front (spelled (element spaced (codes "code") [] (text_before s none))) (code_html s) (all_spelled o.first)
           (behind_spelled o.behind) (inlines_html xs) (all_spelled rest) (code-spelled s) i.1,
     )
 inlines-open (formatted f content xs) rest ns h =
@@ -99,7 +99,7 @@ inlines-open (formatted f content xs) rest ns h =
     let o = inlines_open xs rest in
     let inner = inlines_open content none in (
       i.0,
-      front (spelled (element false (format_name f) (pairs_of_format f) inner.first))
+      front (spelled (element spaced (format_name f) (pairs_of_format f) inner.first))
           (formatted_html f (inlines_html content)) (all_spelled o.first) (behind_spelled o.behind)
           (inlines_html xs) (all_spelled rest)
           (format-spelled f inner.first
@@ -112,7 +112,7 @@ inlines-open (link a t content xs) rest ns h =
     let o = inlines_open xs rest in
     let inner = inlines_open content none in (
       i.0,
-      front (spelled (element false (codes "a") (pairs_of_link a t) inner.first))
+      front (spelled (element spaced (codes "a") (pairs_of_link a t) inner.first))
           (link_html a t (inlines_html content)) (all_spelled o.first) (behind_spelled o.behind)
           (inlines_html xs) (all_spelled rest)
           (link-spelled a t inner.first
@@ -123,7 +123,7 @@ inlines-open (image a t content xs) rest ns h =
     let i = inlines-open xs rest ns h in
     let o = inlines_open xs rest in (
       i.0,
-      front (spelled (element false (codes "img") (pairs_of_image a t (plain_text content)) none))
+      front (spelled (element spaced (codes "img") (pairs_of_image a t (plain_text content)) none))
           (image_html a t (plain_text content)) (all_spelled o.first) (behind_spelled o.behind) (inlines_html xs)
           (all_spelled rest) (image-spelled a t (plain_text content)) i.1,
     )
@@ -160,7 +160,7 @@ inlines-alone xs h = inlines xs none h ∙ append-nil (inlines_html xs)
 -- ---- tables
 
 module _ (name : List ℕ) (void : is_void name ≡ false)
-    (begins : (a : Alignment) → tag false name (pairs_of_alignment a) ≡ cell_tag name a)
+    (begins : (a : Alignment) → tag spaced name (pairs_of_alignment a) ≡ cell_tag name a)
     (ends : end_tag name ++ codes "\n" ≡ end_of_cell name) where
   cells : (alignments : List Alignment) (cs : List Inlines) → cells_are_paired cs ≡ true
       → all_spelled (cells_trees name alignments cs) ≡ cells_html name alignments cs
@@ -181,14 +181,14 @@ module _ (name : List ℕ) (void : is_void name ≡ false)
       lines-spelled (codes "tr") [] (cells_trees name alignments cs) rest (codes "<tr>\n")
       (cells_html name alignments cs) (codes "</tr>\n") refl refl refl (cells alignments cs h)
 
-cell_tags : (a : Alignment) → tag false (codes "td") (pairs_of_alignment a) ≡ cell_tag (codes "td") a
+cell_tags : (a : Alignment) → tag spaced (codes "td") (pairs_of_alignment a) ≡ cell_tag (codes "td") a
 unfolding is_void
 cell_tags aligned.None = refl
 cell_tags aligned.Left = refl
 cell_tags aligned.Center = refl
 cell_tags aligned.Right = refl
 
-header_tags : (a : Alignment) → tag false (codes "th") (pairs_of_alignment a) ≡ cell_tag (codes "th") a
+header_tags : (a : Alignment) → tag spaced (codes "th") (pairs_of_alignment a) ≡ cell_tag (codes "th") a
 unfolding is_void
 header_tags aligned.None = refl
 header_tags aligned.Left = refl
@@ -273,7 +273,7 @@ numbered : (v : List ℕ) → (codes "<ol start=\"" ++ (((v ++ codes "\"") ++ []
 numbered v = simp (append_assoc, append-nil)
 
 list-begins : (start : Option ℕ)
-    → list_tag start ≡ tag false (list_name start) (pairs_of_start start) ++ codes "\n"
+    → list_tag start ≡ tag spaced (list_name start) (pairs_of_start start) ++ codes "\n"
 unfolding is_void
 list-begins None = refl
 list-begins (Some n) =
@@ -291,7 +291,7 @@ begun false true ts = refl
 begun false false ts = refl
 
 a_heading : (level : ℕ) (xs : Inlines) (rest : SpelledForest) → are_paired xs ≡ true
-    → all_spelled (more (element false (heading_name level) [] (inlines_trees xs none)) (line_end rest))
+    → all_spelled (more (element spaced (heading_name level) [] (inlines_trees xs none)) (line_end rest))
     ≡ heading_html level (inlines_html xs) ++ all_spelled rest
 a_heading level xs rest h =
     line-spelled (heading_name level) [] (inlines_trees xs none) rest (inlines_html xs) (end_of_heading level)
@@ -301,7 +301,7 @@ a_heading level xs rest h =
     heading-end : (d : List ℕ) → (codes "</h" ++ d ++ codes ">") ++ codes "\n" ≡ codes "</h" ++ d ++ codes ">\n"
     heading-end d = simp append_assoc
 
-    tags : tag false (heading_name level) [] ≡ heading_tag level
+    tags : tag spaced (heading_name level) [] ≡ heading_tag level
     tags =
         rw (heading-not-void level) (ap (λ s. s ++ codes ">") (append-nil (codes "<h" ++ decimal level)))
 

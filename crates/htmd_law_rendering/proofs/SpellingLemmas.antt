@@ -18,7 +18,7 @@ use Rattle.htmd_commonmark_reading.specs.Rendering.{code_html, formatted_html, l
 use Rattle.htmd_law_rendering.specs.RenderedTrees.{text_before, line_end, encoded_address, pairs_of_title, format_name}
 use Rattle.htmd_law_rendering.specs.RenderedTrees.{pairs_of_format, pairs_of_link, pairs_of_image, pairs_of_box}
 use Rattle.htmd_law_rendering.specs.RenderedTrees.{lines_before, heading_name}
-use Rattle.htmd_law_rendering.specs.SpelledTrees.{SpelledForest, none, more, text, element, attribute_in, tag}
+use Rattle.htmd_law_rendering.specs.SpelledTrees.{TagForm, spaced, short, SpelledForest, none, more, text, element, attribute_in, tag}
 use Rattle.htmd_law_rendering.specs.SpelledTrees.{spelled, all_spelled}
 use Rattle.htmd_law_rendering.proofs.ByteLemmas.{escaped-encoded, decimal-digits, no-digit}
 
@@ -42,12 +42,12 @@ text-alone s = text-spelled s none ∙ append-nil (escaped s)
 pub and-then : (a b x y rest : List ℕ) → a ≡ b → x ≡ y ++ rest → a ++ x ≡ (b ++ y) ++ rest
 and-then a b x y rest e f = ap (λ s. s ++ x) e ∙ (ap (λ s. b ++ s) f ∙ sym (append_assoc b y rest))
 
-pub element-spelled : (k : Bool) (name : List ℕ) (attributes : List AttributePair) (ks : SpelledForest)
+pub element-spelled : (k : TagForm) (name : List ℕ) (attributes : List AttributePair) (ks : SpelledForest)
     → is_void name ≡ false
     → spelled (element k name attributes ks) ≡ tag k name attributes ++ all_spelled ks ++ end_tag name
 element-spelled k name attributes ks v = rw v refl
 
-pub void-spelled : (k : Bool) (name : List ℕ) (attributes : List AttributePair) (ks : SpelledForest)
+pub void-spelled : (k : TagForm) (name : List ℕ) (attributes : List AttributePair) (ks : SpelledForest)
     → is_void name ≡ true → spelled (element k name attributes ks) ≡ tag k name attributes
 void-spelled k name attributes ks v = rw v refl
 
@@ -57,15 +57,15 @@ apart a x b y = simp append_assoc
 
 -- an element whose content stands in lines of its own
 pub lines-spelled : (name : List ℕ) (attributes : List AttributePair) (content rest : SpelledForest)
-    (begin html end : List ℕ) → is_void name ≡ false → begin ≡ tag false name attributes ++ codes "\n"
+    (begin html end : List ℕ) → is_void name ≡ false → begin ≡ tag spaced name attributes ++ codes "\n"
     → end ≡ end_tag name ++ codes "\n" → all_spelled content ≡ html
     → all_spelled (lines_before name attributes content rest) ≡ (begin ++ html ++ end) ++ all_spelled rest
 lines-spelled name attributes content rest begin html end v b e h =
-    ap (λ s. s ++ all_spelled (line_end rest)) (element-spelled false name attributes (line_end content) v)
-    ∙ (ap (λ s. (tag false name attributes ++ s ++ end_tag name) ++ all_spelled (line_end rest))
+    ap (λ s. s ++ all_spelled (line_end rest)) (element-spelled spaced name attributes (line_end content) v)
+    ∙ (ap (λ s. (tag spaced name attributes ++ s ++ end_tag name) ++ all_spelled (line_end rest))
     (text-spelled (codes "\n") content ∙ ap (λ s. 10 ∷ s) h)
-    ∙ (ap (λ s. (tag false name attributes ++ (10 ∷ html) ++ end_tag name) ++ s) (text-spelled (codes "\n") rest)
-    ∙ (apart (tag false name attributes) html (end_tag name) (all_spelled rest)
+    ∙ (ap (λ s. (tag spaced name attributes ++ (10 ∷ html) ++ end_tag name) ++ s) (text-spelled (codes "\n") rest)
+    ∙ (apart (tag spaced name attributes) html (end_tag name) (all_spelled rest)
     ∙ (ap (λ s. (s ++ html ++ (end_tag name ++ codes "\n")) ++ all_spelled rest) (sym b)
     ∙ ap (λ s. (begin ++ html ++ s) ++ all_spelled rest) (sym e)))))
 
@@ -76,18 +76,18 @@ joined-end a x b y = simp append_assoc
 pub line-spelled : (name : List ℕ) (attributes : List AttributePair) (content rest : SpelledForest)
     (html end : List ℕ) → is_void name ≡ false → end ≡ end_tag name ++ codes "\n"
     → all_spelled content ≡ html
-    → all_spelled (more (element false name attributes content) (line_end rest))
-    ≡ (tag false name attributes ++ html ++ end) ++ all_spelled rest
+    → all_spelled (more (element spaced name attributes content) (line_end rest))
+    ≡ (tag spaced name attributes ++ html ++ end) ++ all_spelled rest
 line-spelled name attributes content rest html end v e h =
-    ap (λ s. s ++ all_spelled (line_end rest)) (element-spelled false name attributes content v)
-    ∙ (ap (λ s. (tag false name attributes ++ s ++ end_tag name) ++ all_spelled (line_end rest)) h
-    ∙ (ap (λ s. (tag false name attributes ++ html ++ end_tag name) ++ s) (text-spelled (codes "\n") rest)
-    ∙ (joined-end (tag false name attributes) html (end_tag name) (all_spelled rest)
-    ∙ ap (λ s. (tag false name attributes ++ html ++ s) ++ all_spelled rest) (sym e))))
+    ap (λ s. s ++ all_spelled (line_end rest)) (element-spelled spaced name attributes content v)
+    ∙ (ap (λ s. (tag spaced name attributes ++ s ++ end_tag name) ++ all_spelled (line_end rest)) h
+    ∙ (ap (λ s. (tag spaced name attributes ++ html ++ end_tag name) ++ s) (text-spelled (codes "\n") rest)
+    ∙ (joined-end (tag spaced name attributes) html (end_tag name) (all_spelled rest)
+    ∙ ap (λ s. (tag spaced name attributes ++ html ++ s) ++ all_spelled rest) (sym e))))
 
 -- ---- inlines
 
-pub code-spelled : (s : List ℕ) → spelled (element false (codes "code") [] (text_before s none)) ≡ code_html s
+pub code-spelled : (s : List ℕ) → spelled (element spaced (codes "code") [] (text_before s none)) ≡ code_html s
 unfolding is_void
 code-spelled s = ap (λ x. codes "<code>" ++ x ++ codes "</code>") (text-alone s)
 
@@ -95,7 +95,7 @@ pub titled : (v : List ℕ) → ((v ++ 34 ∷ []) ++ []) ++ 62 ∷ [] ≡ v ++ 3
 titled v = simp (append_assoc, append-nil)
 
 pub format-spelled : (f : Format) (ks : SpelledForest)
-    → spelled (element false (format_name f) (pairs_of_format f) ks) ≡ formatted_html f (all_spelled ks)
+    → spelled (element spaced (format_name f) (pairs_of_format f) ks) ≡ formatted_html f (all_spelled ks)
 unfolding is_void
 format-spelled Emphasis ks = refl
 format-spelled Strong ks = refl
@@ -116,7 +116,7 @@ titles name None e = refl
 titles name (Some s) e = rw e (append-nil (attribute (codes "title") (escaped s)))
 
 pub link-spelled : (address : List ℕ) (title : Option (List ℕ)) (ks : SpelledForest)
-    → spelled (element false (codes "a") (pairs_of_link address title) ks)
+    → spelled (element spaced (codes "a") (pairs_of_link address title) ks)
     ≡ link_html address title (all_spelled ks)
 unfolding is_void
 link-spelled address title ks =
@@ -134,7 +134,7 @@ pictured : (src alt title : List ℕ)
 pictured src alt title = simp append_assoc
 
 pub image-spelled : (address : List ℕ) (title : Option (List ℕ)) (description : List ℕ)
-    → spelled (element false (codes "img") (pairs_of_image address title description) none)
+    → spelled (element spaced (codes "img") (pairs_of_image address title description) none)
     ≡ image_html address title description
 unfolding is_void
 image-spelled address title description =
@@ -150,7 +150,7 @@ image-spelled address title description =
         (pictured (escaped_address address) (escaped description) (title_attribute title))
 
 pub box-spelled : (d : Bool) (ts : SpelledForest) (html : List ℕ) → all_spelled ts ≡ html
-    → all_spelled (more (element true (codes "input") (pairs_of_box d) none) (text_before (codes " ") ts))
+    → all_spelled (more (element short (codes "input") (pairs_of_box d) none) (text_before (codes " ") ts))
     ≡ box_html d ++ html
 unfolding is_void
 box-spelled true ts html h =

@@ -22,7 +22,7 @@ use Rattle.htmd_grammar.specs.RawContent.{content_of, drops_line_feed, holds_tex
 use Rattle.htmd_grammar.proofs.NestingLemmas.{among_passes}
 use Rattle.htmd_commonmark_reading.specs.Markup.{Inlines, no_inlines, letter, code, formatted, link, image, line_break}
 use Rattle.htmd_commonmark_reading.specs.Markup.{task, raw, plain_text}
-use Rattle.htmd_law_rendering.specs.RawTags.{RawTag, opening, closing, breaking, unknown, raw_names, raw_tag}
+use Rattle.htmd_law_rendering.specs.RawTags.{RawTag, opening, closing, breaking, unknown, raw_tag}
 use Rattle.htmd_law_rendering.specs.RenderedTrees.{text_before, line_end, format_name, pairs_of_format, pairs_of_link}
 use Rattle.htmd_law_rendering.specs.RenderedTrees.{pairs_of_image, pairs_of_box, pairs_of_alignment, Behind, Open}
 use Rattle.htmd_law_rendering.specs.RenderedTrees.{opened, with_raw, inlines_open, inlines_trees}
@@ -31,6 +31,7 @@ use Rattle.htmd_law_rendering.specs.PlainReadings.{opened_names, names_with, uno
 use Rattle.htmd_law_rendering.specs.PlainReadings.{raw_is_strict, are_strict}
 use Rattle.htmd_law_rendering.proofs.TagLemmas.{IsTreeName}
 use Rattle.htmd_law_rendering.proofs.FittingLemmas.{FitPairs, FitsText, Fits}
+use Rattle.htmd_law_rendering.proofs.RawNames.{raw_names}
 use Rattle.htmd_law_rendering.proofs.RawLemmas.{IsRaw, raw-is, names_of}
 use Rattle.htmd_law_rendering.proofs.RenderedLemmas.{nothing-left, all-opened, inlines-open}
 use Rattle.htmd_law_rendering.proofs.PlaceLemmas.{TakesInlines, HasNoLink, takes, holds_inlines, format-holds}
@@ -139,7 +140,7 @@ unopened-raw (raw s xs) ns e = by_tag (raw_tag s) (unopened xs) (raw-is s) (λ m
     by_tag (closing n) (Some ms) k h e =
         let x : n ∷ ms ≡ ns = cc in
         subst AreRaw x (and_from (is_among raw_names n) (list_all (is_among raw_names) ms) k.1 (h ms refl))
-    by_tag breaking (Some ms) k h e = let x : ms ≡ ns = cc in subst AreRaw x (h ms refl)
+    by_tag (breaking form) (Some ms) k h e = let x : ms ≡ ns = cc in subst AreRaw x (h ms refl)
     by_tag unknown (Some ms) k h e = absurd (cc)
 
 pub behind-raw : (xs : Inlines) (rest : SpelledForest) (ns : List (List ℕ)) → unopened xs ≡ Some ns
@@ -300,7 +301,7 @@ module _ (z : Bool) where
       let j = i ms refl in
       opened-fits k n attributes o.first o.behind ms ns c s w j.1 e j.2 h t l j.0
   raw-fits (closing n) k o (Some ms) ns c s w e h t l i = let j = i ms refl in (tt, j.0)
-  raw-fits breaking k o (Some ms) ns c s w e h t l i =
+  raw-fits (breaking form) k o (Some ms) ns c s w e h t l i =
       let j = i ms refl in
       let here = names_of o.behind ++ c in (
         (

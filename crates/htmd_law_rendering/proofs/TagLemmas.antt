@@ -1,9 +1,9 @@
 -- The tags of trees are tags of the strict grammar.
 use Rattle.std.proofs.Common.{◌≡◌, ℕ, true, List, [], ◌∷◌, ◌++◌, refl, ap, ◌∙◌, codes, Some, inl}
-use Rattle.std.proofs.Common.{Bool, inr, map}
+use Rattle.std.proofs.Common.{Bool, false, inr, map}
 use Rattle.std.specs.Char.{to_ascii_lowercase}
 use Rattle.std.specs.List.{flat_map}
-use Rattle.std.specs.Prelude.{⊤}
+use Rattle.std.specs.Prelude.{⊤, ◌&&◌}
 use Rattle.std.proofs.lemmas.Bool.{and_parts}
 use Rattle.std.proofs.lemmas.List.{append_assoc}
 use Rattle.htmd_lexical.proofs.Cases.{test}
@@ -14,7 +14,7 @@ use Rattle.htmd_values.specs.Serialisation.{is_void, end_tag}
 use Rattle.htmd_grammar.specs.Rules.{named_characters}
 use Rattle.htmd_grammar.specs.Tags.{IsEndTag, IsStartTag, IsTagRest, decode_values}
 use Rattle.htmd_law_rendering.specs.RenderedTrees.{pair}
-use Rattle.htmd_law_rendering.specs.SpelledTrees.{value_in, attribute_in, has_slash, tag_end, tag}
+use Rattle.htmd_law_rendering.specs.SpelledTrees.{TagForm, spaced, slashed, short, end_of_void, value_in, attribute_in, tag_end, tag}
 use Rattle.htmd_law_rendering.proofs.DecodeLemmas.{lacks-parts, value-lacks, value-denotes}
 
 -- a name as it stands in a tree
@@ -60,11 +60,25 @@ around : (k v r e : List ℕ)
     ≡ (32 ∷ []) ++ (k ++ ((61 ∷ (34 ∷ (v ++ 34 ∷ []))) ++ (r ++ e)))
 around k v r e = simp append_assoc
 
-tag-ends : (s : Bool) (n : List ℕ) → IsTagRest [] (has_slash s n) (tag_end s n)
-tag-ends s n = test (has_slash s n) (λ e. rw e (codes " ", refl, refl)) (λ e. rw e ([], refl, refl))
+abbrev has_slash : TagForm → Bool
+has_slash spaced = true
+has_slash slashed = true
+has_slash short = false
 
-rest : (s : Bool) (n : List ℕ) (attributes : List AttributePair) → AreTreePairs attributes
-    → IsTagRest (spelled_pairs n attributes) (has_slash s n) (flat_map (attribute_in n) attributes ++ tag_end s n)
+-- whether a tag of this name in this form has one
+abbrev is_slashed : TagForm → List ℕ → Bool
+is_slashed form n = is_void n && has_slash form
+
+void-ends : (form : TagForm) → IsTagRest [] (has_slash form) (end_of_void form)
+void-ends spaced = (codes " ", refl, refl)
+void-ends slashed = ([], refl, refl)
+void-ends short = ([], refl, refl)
+
+tag-ends : (form : TagForm) (n : List ℕ) → IsTagRest [] (is_slashed form n) (tag_end form n)
+tag-ends form n = test (is_void n) (λ e. rw e (void-ends form)) (λ e. rw e ([], refl, refl))
+
+rest : (s : TagForm) (n : List ℕ) (attributes : List AttributePair) → AreTreePairs attributes
+    → IsTagRest (spelled_pairs n attributes) (is_slashed s n) (flat_map (attribute_in n) attributes ++ tag_end s n)
 rest s n [] k = tag-ends s n
 rest s n (a ∷ attributes) k =
     let v = value_in n a.name a.value in
@@ -88,15 +102,15 @@ values n [] k = refl
 values n (a ∷ attributes) k =
     let d = (value-denotes n a.name a.value k.3).0 in rw (d, values n attributes k.4) refl
 
-slash-is-void : (s : Bool) (n : List ℕ) → has_slash s n ≡ true → is_void n ≡ true
+slash-is-void : (s : TagForm) (n : List ℕ) → is_slashed s n ≡ true → is_void n ≡ true
 slash-is-void s n e = (and_parts (is_void n) _ e).0
 
-pub start-tag : (s : Bool) (n : List ℕ) (attributes : List AttributePair) → IsTreeName n → AreTreePairs attributes
-    → are_distinct (attribute_names attributes) ≡ true
+pub start-tag : (s : TagForm) (n : List ℕ) (attributes : List AttributePair) → IsTreeName n
+    → AreTreePairs attributes → are_distinct (attribute_names attributes) ≡ true
     → IsStartTag named_characters (tag s n attributes) n attributes
 start-tag s n attributes t k d = (
   spelled_pairs n attributes,
-  has_slash s n,
+  is_slashed s n,
   (
     n,
     flat_map (attribute_in n) attributes ++ tag_end s n,

@@ -4,3 +4,4 @@ pub mod RawTags
 pub mod RenderedTrees
 pub mod PlainReadings
 pub mod RenderingLaws
+pub mod DocumentLaws

@@ -5,6 +5,7 @@ use Rattle.std.specs.Prelude.{drop, codes, Option, Some, None}
 use Rattle.std.specs.Str.{bytes_eq}
 use Rattle.htmd_lexical.specs.Characters.{carriage_return}
 use Rattle.htmd_lexical.specs.CharacterClasses.{lacks}
+use Rattle.htmd_document.specs.Documents as document
 use Rattle.htmd_grammar.specs.Nesting.{is_open}
 use Rattle.htmd_commonmark_reading.specs.Markup.{Inlines, no_inlines, letter, code, formatted, link, image, line_break}
 use Rattle.htmd_commonmark_reading.specs.Markup.{task, raw, Block, paragraph, heading, code_block, quote}
@@ -26,7 +27,7 @@ abbrev pub names_with : RawTag → Option (List (List ℕ)) → Option (List (Li
 names_with tag None = None
 names_with (opening name attributes) (Some ns) = opened_names name ns
 names_with (closing name) (Some ns) = Some (name ∷ ns)
-names_with breaking (Some ns) = Some ns
+names_with (breaking form) (Some ns) = Some ns
 names_with unknown (Some ns) = None
 
 -- if all are opened in an element
@@ -80,6 +81,41 @@ abbrev mutual
   pub items_are_paired : Items → Bool
   items_are_paired no_items = true
   items_are_paired (item bs rest) = blocks_are_paired bs && items_are_paired rest
+
+-- ---- documents without elements of HTML, or without tables
+
+abbrev mutual
+  -- neither elements nor their tags in lines
+  pub block_has_no_elements : document.Block → Bool
+  block_has_no_elements (document.quote bs) = blocks_have_no_elements bs
+  block_has_no_elements (document.list start is_tight items) = items_have_no_elements items
+  block_has_no_elements (document.element name attributes bs) = false
+  block_has_no_elements (document.tags s) = false
+  block_has_no_elements b = true
+
+  pub blocks_have_no_elements : document.Blocks → Bool
+  blocks_have_no_elements document.no_blocks = true
+  blocks_have_no_elements (document.block b bs) = block_has_no_elements b && blocks_have_no_elements bs
+
+  pub items_have_no_elements : document.Items → Bool
+  items_have_no_elements document.no_items = true
+  items_have_no_elements (document.item bs rest) = blocks_have_no_elements bs && items_have_no_elements rest
+
+abbrev mutual
+  pub no_table_in_block : document.Block → Bool
+  no_table_in_block (document.quote bs) = no_table_in_blocks bs
+  no_table_in_block (document.list start is_tight items) = no_table_in_items items
+  no_table_in_block (document.table alignments header rows) = false
+  no_table_in_block (document.element name attributes bs) = no_table_in_blocks bs
+  no_table_in_block b = true
+
+  pub no_table_in_blocks : document.Blocks → Bool
+  no_table_in_blocks document.no_blocks = true
+  no_table_in_blocks (document.block b bs) = no_table_in_block b && no_table_in_blocks bs
+
+  pub no_table_in_items : document.Items → Bool
+  no_table_in_items document.no_items = true
+  no_table_in_items (document.item bs rest) = no_table_in_blocks bs && no_table_in_items rest
 
 -- ---- where HTML allows elements
 

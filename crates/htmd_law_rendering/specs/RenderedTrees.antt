@@ -18,8 +18,9 @@ use Rattle.htmd_commonmark_reading.specs.Markup.{thematic_break, list, table, ht
 use Rattle.htmd_commonmark_reading.specs.Markup.{Items, no_items, item, plain_text}
 use Rattle.htmd_commonmark_reading.specs.Rendering.{stays_in_address, hexadecimal_digit, first_alignment, is_bare}
 use Rattle.htmd_law_rendering.specs.RawTags.{RawTag, opening, closing, breaking, unknown, raw_tag}
-pub use Rattle.htmd_law_rendering.specs.RawTags.{pair}
-use Rattle.htmd_law_rendering.specs.SpelledTrees.{SpelledForest, none, more, text, element, value_forest}
+pub use Rattle.htmd_law_rendering.specs.RawTags.{pair, pairs_of_format}
+use Rattle.htmd_law_rendering.specs.SpelledTrees.{SpelledForest, none, more, text, element, spaced, short}
+use Rattle.htmd_law_rendering.specs.SpelledTrees.{value_forest}
 
 -- ---- texts, elements and attributes
 
@@ -31,7 +32,7 @@ text_before (b ∷ s) ts = more (text (b ∷ s)) ts
 
 -- an element before trees; if it is void its tag has a slash
 abbrev pub element_before : List ℕ → List AttributePair → SpelledForest → SpelledForest → SpelledForest
-element_before name attributes content ts = more (element false name attributes content) ts
+element_before name attributes content ts = more (element spaced name attributes content) ts
 
 abbrev pub line_end : SpelledForest → SpelledForest
 line_end ts = text_before (line_feed ∷ []) ts
@@ -64,10 +65,6 @@ format_name Marked = codes "mark"
 format_name Small = codes "small"
 format_name Keyboard = codes "kbd"
 format_name (Abbreviation title) = codes "abbr"
-
-abbrev pub pairs_of_format : Format → List AttributePair
-pairs_of_format (Abbreviation title) = pair (codes "title") title ∷ []
-pairs_of_format f = []
 
 abbrev pub pairs_of_link : List ℕ → Option (List ℕ) → List AttributePair
 pairs_of_link address title = pair (codes "href") (encoded_address address) ∷ pairs_of_title title
@@ -104,7 +101,7 @@ opened name attributes content (b ∷ behind) =
 abbrev pub with_raw : RawTag → Open → Open
 with_raw (opening name attributes) o = opened name attributes o.first o.behind
 with_raw (closing name) o = record { first = none; behind = record { name = name; trees = o.first } ∷ o.behind }
-with_raw breaking o = onto (more (element true (codes "br") [] none)) o
+with_raw (breaking form) o = onto (more (element form (codes "br") [] none)) o
 with_raw unknown o = o
 
 abbrev pub inlines_open : Inlines → SpelledForest → Open
@@ -120,7 +117,7 @@ inlines_open (image a t content xs) rest =
 inlines_open (line_break xs) rest =
     onto (λ ts. element_before (codes "br") [] none (line_end ts)) (inlines_open xs rest)
 inlines_open (task d xs) rest =
-    onto (λ ts. more (element true (codes "input") (pairs_of_box d) none) (text_before (space ∷ []) ts))
+    onto (λ ts. more (element short (codes "input") (pairs_of_box d) none) (text_before (space ∷ []) ts))
     (inlines_open xs rest)
 inlines_open (raw tag xs) rest = with_raw (raw_tag tag) (inlines_open xs rest)
 

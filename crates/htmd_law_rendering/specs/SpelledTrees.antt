@@ -1,7 +1,7 @@
 -- HTML as it is spelled: the trees that it is of, and with them what their tags look like. As in the examples of
 -- CommonMark, quotation marks and greater-than signs are references everywhere, and the tags of void elements end in a
 -- slash, but for GitHub's `input` and for breaks that are written as raw HTML.
-use Rattle.std.specs.Prelude.{ℕ, suc, max, Bool, not, ◌&&◌, ◌||◌, if◌then◌else◌, List, [], ◌++◌, codes}
+use Rattle.std.specs.Prelude.{ℕ, suc, max, ◌||◌, if◌then◌else◌, List, [], ◌++◌, codes}
 use Rattle.std.specs.Str.{bytes_eq}
 use Rattle.std.specs.List.{flat_map}
 use Rattle.htmd_lexical.specs.AttributePairs.{AttributePair}
@@ -11,12 +11,16 @@ use Rattle.htmd_values.specs.ValueTrees.{ValueTree, ValueForest}
 use Rattle.htmd_values.specs.Serialisation.{is_void, end_tag}
 use Rattle.htmd_commonmark_reading.specs.Rendering.{escaped, attribute}
 
+-- how the tag of a void element ends: with a space and a slash, with a slash alone, or with neither
+pub data TagForm : Type 0 where
+  spaced : TagForm
+  slashed : TagForm
+  short : TagForm
+
 mutual
-  -- a text, or an element; the tag of a void one may be short, without a slash
   pub data Spelled : Type 0 where
     text : (s : List ℕ) → Spelled
-    element : (is_short : Bool) (name : List ℕ) (attributes : List AttributePair) (content : SpelledForest)
-        → Spelled
+    element : (form : TagForm) (name : List ℕ) (attributes : List AttributePair) (content : SpelledForest) → Spelled
 
   pub data SpelledForest : Type 0 where
     none : SpelledForest
@@ -26,7 +30,7 @@ abbrev mutual
   -- a tree without the forms of its tags
   pub value_tree : Spelled → ValueTree
   value_tree (text s) = value.text s
-  value_tree (element is_short name attributes content) = value.element name attributes (value_forest content)
+  value_tree (element form name attributes content) = value.element name attributes (value_forest content)
 
   pub value_forest : SpelledForest → ValueForest
   value_forest none = value.none
@@ -40,23 +44,25 @@ value_in name key v =
 abbrev pub attribute_in : List ℕ → AttributePair → List ℕ
 attribute_in name a = attribute a.name (value_in name a.name a.value)
 
-abbrev pub has_slash : Bool → List ℕ → Bool
-has_slash is_short name = is_void name && not is_short
+abbrev pub end_of_void : TagForm → List ℕ
+end_of_void spaced = codes " />"
+end_of_void slashed = codes "/>"
+end_of_void short = codes ">"
 
-abbrev pub tag_end : Bool → List ℕ → List ℕ
-tag_end is_short name = if has_slash is_short name then codes " />" else codes ">"
+abbrev pub tag_end : TagForm → List ℕ → List ℕ
+tag_end form name = if is_void name then end_of_void form else codes ">"
 
-abbrev pub tag : Bool → List ℕ → List AttributePair → List ℕ
-tag is_short name attributes =
-    codes "<" ++ name ++ flat_map (attribute_in name) attributes ++ tag_end is_short name
+abbrev pub tag : TagForm → List ℕ → List AttributePair → List ℕ
+tag form name attributes =
+    codes "<" ++ name ++ flat_map (attribute_in name) attributes ++ tag_end form name
 
 abbrev mutual
   pub spelled : Spelled → List ℕ
   spelled (text s) = escaped s
-  spelled (element is_short name attributes content) =
+  spelled (element form name attributes content) =
       if is_void name
-      then tag is_short name attributes
-      else tag is_short name attributes ++ all_spelled content ++ end_tag name
+      then tag form name attributes
+      else tag form name attributes ++ all_spelled content ++ end_tag name
 
   pub all_spelled : SpelledForest → List ℕ
   all_spelled none = []
@@ -66,7 +72,7 @@ abbrev mutual
   -- how many elements and texts can be in each other
   pub levels_of : Spelled → ℕ
   levels_of (text s) = 1
-  levels_of (element is_short name attributes content) = suc (levels content)
+  levels_of (element form name attributes content) = suc (levels content)
 
   pub levels : SpelledForest → ℕ
   levels none = 0

@@ -2,4 +2,5 @@
 //! in it. Each law is the contract of a function that does nothing.
 #![tactic(auto)]
 
+pub mod documents;
 pub mod rendering;

@@ -1,5 +1,6 @@
 //! The HTML of what is read, and its trees.
 ghost use Rattle.htmd_law_rendering.specs.RenderingLaws.{RenderedIsSpelled, RenderedIsRead, RenderedIsParsed};
+ghost use Rattle.htmd_law_rendering.specs.RenderingLaws.{SeenIsPaired, SeenIsStrict};
 
 /// The HTML of what is read, if raw tags pair, is what its trees are spelled as.
 pub fn rendered_is_spelled()
@@ -15,4 +16,15 @@ pub fn rendered_is_read()
 /// trees.
 pub fn rendered_is_parsed()
     ensures { RenderedIsParsed }
+{}
+
+/// Raw tags pair in each text in which one sees a flat document without elements.
+pub fn seen_is_paired()
+    ensures { SeenIsPaired }
+{}
+
+/// No link or anchor stands in a link, and headings have six levels, in each text in which one sees a flat document in
+/// normal form.
+pub fn seen_is_strict()
+    ensures { SeenIsStrict }
 {}

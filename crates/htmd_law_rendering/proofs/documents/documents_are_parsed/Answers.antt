@@ -1,0 +1,7 @@
+use Rattle.htmd_law_html5.proofs.StrictPages.{pages_agree}
+use Rattle.htmd_law_html5.proofs.StrictImplied.{texts_agree}
+use Rattle.htmd_law_rendering.proofs.DocumentLemmas.{documents-parsed}
+use Rattle.htmd_law_rendering.proofs.documents.documents_are_parsed.Goals as goal
+
+pub returns : goal.returns
+returns c = documents-parsed pages_agree texts_agree

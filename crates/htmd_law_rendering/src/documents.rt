@@ -1,0 +1,14 @@
+//! The HTML of the Markdown of documents.
+ghost use Rattle.htmd_law_rendering.specs.DocumentLaws.{DocumentsAreSpelled, DocumentsAreParsed};
+
+/// The HTML of the Markdown of a document in normal form, none of whose blocks is an element of HTML, is what its trees
+/// are spelled as.
+pub fn documents_are_spelled()
+    ensures { DocumentsAreSpelled }
+{}
+
+/// Without tables the reader of any page reads it as the document of these trees, if no carriage return and no U+0000
+/// is in it and it isn't nested too deep.
+pub fn documents_are_parsed()
+    ensures { DocumentsAreParsed }
+{}
