@@ -169,9 +169,9 @@ abbrev spelled_line : Line → SpelledForest
 spelled_line documents.no_inlines = value.none
 spelled_line (documents.inline (documents.text s) xs) = value.more (value.text s) (spelled_line xs)
 spelled_line (documents.inline (documents.code s) xs) =
-    value.more (value.element false (codes "code") [] (text_before s value.none)) (spelled_line xs)
+    value.more (value.element value.spaced (codes "code") [] (text_before s value.none)) (spelled_line xs)
 spelled_line (documents.inline (documents.formatted f content) xs) =
-    value.more (value.element false (format_name f) (pairs_of_format f) (spelled_line content)) (spelled_line xs)
+    value.more (value.element value.spaced (format_name f) (pairs_of_format f) (spelled_line content)) (spelled_line xs)
 spelled_line (documents.inline x xs) = value.none
 
 -- the trees of a line
@@ -208,7 +208,7 @@ trees-of-line (letter c xs) h s =
     let t : has_shape (line_of xs) ≡ true = add-shape c (line_of xs) s in
     ap (text_before (c ∷ [])) (trees-of-line xs h t) ∙ letter-trees c (line_of xs) t
 trees-of-line (code t xs) h s =
-    ap (value.more (value.element false (codes "code") [] (text_before t value.none))) (trees-of-line xs h s)
+    ap (value.more (value.element value.spaced (codes "code") [] (text_before t value.none))) (trees-of-line xs h s)
 trees-of-line (formatted f content xs) h s =
     let parts = and_parts (has_no_raw content) (has_no_raw xs) h in
     let shapes = and_parts (has_shape (line_of content)) (has_shape (line_of xs)) s in
@@ -249,14 +249,14 @@ spelled_before_line ts = value.more (value.text (line_feed ∷ [])) ts
 abbrev mutual
   spelled_before : documents.Block → SpelledForest → SpelledForest
   spelled_before (documents.paragraph xs) ts =
-      value.more (value.element false (codes "p") [] (spelled_line xs)) (spelled_before_line ts)
+      value.more (value.element value.spaced (codes "p") [] (spelled_line xs)) (spelled_before_line ts)
   spelled_before (documents.heading level xs) ts =
-      value.more (value.element false (heading_name level) [] (spelled_line xs)) (spelled_before_line ts)
+      value.more (value.element value.spaced (heading_name level) [] (spelled_line xs)) (spelled_before_line ts)
   spelled_before (documents.quote bs) ts =
-      value.more (value.element false (codes "blockquote") [] (spelled_before_line (spelled_in bs)))
+      value.more (value.element value.spaced (codes "blockquote") [] (spelled_before_line (spelled_in bs)))
       (spelled_before_line ts)
   spelled_before documents.thematic_break ts =
-      value.more (value.element false (codes "hr") [] value.none) (spelled_before_line ts)
+      value.more (value.element value.spaced (codes "hr") [] value.none) (spelled_before_line ts)
   spelled_before b ts = value.none
 
   spelled_in : documents.Blocks → SpelledForest
@@ -325,23 +325,23 @@ mutual
   tree-from (paragraph xs) own bs d h e settled rest =
       let found = from-option documents.paragraph (document_inlines (seen_inlines xs)) own e in
       rw (line-from xs found.value h found.is (sym (ap is_settled found.made) ∙ settled), rest)
-      (ap (value.more (value.element false (codes "p") [] (spelled_line found.value))) (line-apart d)
+      (ap (value.more (value.element value.spaced (codes "p") [] (spelled_line found.value))) (line-apart d)
       ∙ ap (λ b. spelled_before b (spelled_in d)) (sym found.made))
   tree-from (heading level xs) own bs d h e settled rest =
       let found = from-option (documents.heading level) (document_inlines (seen_inlines xs)) own e in
       rw (line-from xs found.value h found.is (sym (ap is_settled found.made) ∙ settled), rest)
-      (ap (value.more (value.element false (heading_name level) [] (spelled_line found.value))) (line-apart d)
+      (ap (value.more (value.element value.spaced (heading_name level) [] (spelled_line found.value))) (line-apart d)
       ∙ ap (λ b. spelled_before b (spelled_in d)) (sym found.made))
   tree-from (quote content) own bs d h e settled rest =
       let found = from-option documents.quote (document_blocks (seen_blocks content)) own e in
       rw (trees-from content found.value h found.is (sym (ap is_settled found.made) ∙ settled), rest)
-      (ap (λ ts. value.more (value.element false (codes "blockquote") [] ts) (line_end (spelled_in d)))
+      (ap (λ ts. value.more (value.element value.spaced (codes "blockquote") [] ts) (line_end (spelled_in d)))
       (line-apart found.value)
-      ∙ (ap (value.more (value.element false (codes "blockquote") [] (spelled_before_line (spelled_in found.value))))
+      ∙ (ap (value.more (value.element value.spaced (codes "blockquote") [] (spelled_before_line (spelled_in found.value))))
       (line-apart d)
       ∙ ap (λ b. spelled_before b (spelled_in d)) (sym found.made)))
   tree-from thematic_break own bs d h e settled rest =
-      rw rest (ap (value.more (value.element false (codes "hr") [] value.none)) (line-apart d)
+      rw rest (ap (value.more (value.element value.spaced (codes "hr") [] value.none)) (line-apart d)
       ∙ ap (λ b. spelled_before b (spelled_in d)) (ap (λ o. unwrap_or o own) e))
   tree-from (code_block language s) own bs d h e settled rest =
       false-true (ap is_settled (ap (λ o. unwrap_or o own) e) ∙ settled)
