@@ -337,8 +337,8 @@ mutual
       rw (trees-from content found.value h found.is (sym (ap is_settled found.made) ∙ settled), rest)
       (ap (λ ts. value.more (value.element value.spaced (codes "blockquote") [] ts) (line_end (spelled_in d)))
       (line-apart found.value)
-      ∙ (ap (value.more (value.element value.spaced (codes "blockquote") [] (spelled_before_line (spelled_in found.value))))
-      (line-apart d)
+      ∙ (ap (value.more (value.element value.spaced (codes "blockquote") []
+      (spelled_before_line (spelled_in found.value)))) (line-apart d)
       ∙ ap (λ b. spelled_before b (spelled_in d)) (sym found.made)))
   tree-from thematic_break own bs d h e settled rest =
       rw rest (ap (value.more (value.element value.spaced (codes "hr") [] value.none)) (line-apart d)
