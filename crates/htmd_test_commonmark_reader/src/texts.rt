@@ -84,6 +84,10 @@ const INLINES: &[Row] = &[
         text: "<a><bab>foo  \nbaz\n",
         html: "<p><a><bab>foo<br />\nbaz</p>\n",
     },
+    Row {
+        text: "[link](foo(and(bar))\n",
+        html: "<p>[link](foo(and(bar))</p>\n",
+    },
 ];
 
 fn html_of(alloc: Global, text: &str) -> Result<String, AllocError> {
