@@ -1,5 +1,6 @@
 -- What the bytes of an input become, and why they become nothing.
-use Rattle.std.proofs.Common.{◌≡◌, ◌∙◌, ◌||◌, ap, sym, subst, ℕ, Bool, true, false, List, [], ◌∷◌, ◌++◌, length, map, eqb}
+use Rattle.std.proofs.Common.{◌≡◌, ◌∙◌, ◌||◌, ap, sym, subst, ℕ, Bool, true, false, List, [], ◌∷◌, ◌++◌, length, map}
+use Rattle.std.proofs.Common.{eqb}
 use Rattle.std.proofs.Common.{MatchBool, Option, Some, None, arith, codes, refl}
 use Rattle.std.specs.Option.{option_or}
 use Rattle.std.proofs.lemmas.Bool.Decides.{nat_tests}
@@ -152,3 +153,6 @@ named (Some s) = refl
 pub alone_adds_nothing : (page : PageInRun) (settings : Settings) → page ≡ alone
     → settings_for page settings ≡ settings
 alone_adds_nothing page settings e = ap (λ (p : PageInRun). settings_for p settings) e
+
+-- how the text of a page is read
+pub ruleset readable_steps = (readable_page, readable_markdown, readable_utf8, out_of_memory)

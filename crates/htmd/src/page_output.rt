@@ -81,7 +81,7 @@ fn html_of(alloc: Global, markdown: &str) -> Result<String, AllocError>
 
 /// The text of the page that the bytes of an input hold: in their encoding if any page is read, else only in UTF-8; of
 /// Markdown its HTML.
-#[tactic(auto, using(crate::proofs::PageOutputsLemmas::readable_page, crate::proofs::PageOutputsLemmas::readable_markdown, crate::proofs::PageOutputsLemmas::readable_utf8, crate::proofs::PageOutputsLemmas::out_of_memory))]
+#[tactic(auto, using(crate::proofs::PageOutputsLemmas::readable_steps))]
 fn text_of<'a>(
     alloc: Global,
     settings: &PageSettings<'_>,

@@ -1,7 +1,8 @@
 //! How a page is read, and how it is converted.
 
 ghost use Rattle.std.specs.Prelude.{◌≡◌};
-ghost use Rattle.htmd.specs.PageSettings.{alone, default_settings, is_any_page, is_markdown, page_in, settings_in, writes_html};
+ghost use Rattle.htmd.specs.PageSettings.{alone, default_settings, is_any_page, is_markdown, page_in, settings_in};
+ghost use Rattle.htmd.specs.PageSettings.{writes_html};
 
 use htmd_addresses::RunPage;
 use htmd_document_of_tree::Anchors;

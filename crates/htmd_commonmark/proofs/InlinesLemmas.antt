@@ -75,3 +75,6 @@ pub abbreviation_written : (line : Line) (w : Written) (f : Following) (title : 
     → with_inline line w f (inline_of (Abbreviation title xs))
     ≡ between line w (tags_of (format.Abbreviation (string_bytes title))) (inlines_of xs.items)
 abbreviation_written line w f title xs = ap (with_inline line w f) (inline-abbreviation title xs)
+
+-- what of an inline is written
+pub ruleset written_steps = (element_written, abbreviation_written)

@@ -204,7 +204,7 @@ impl InlineWriter {
 
     /// Writes an inline after the text so far.
     #[cycle(inlines)]
-    #[tactic(auto, using(crate::proofs::InlinesLemmas::element_written, crate::proofs::InlinesLemmas::abbreviation_written))]
+    #[tactic(auto, using(crate::proofs::InlinesLemmas::written_steps))]
     fn write_inline(&mut self, x: &Inline, line: Line, follows: Following) -> Result<(), AllocError>
         ensures { OnOk result (written_of self.new
             ≡ spec.with_inline line (written_of self.old) follows (inline_of x.now)) }

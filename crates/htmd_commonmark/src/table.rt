@@ -1,6 +1,7 @@
 //! Tables (GitHub Flavored Markdown 0.29, 4.10).
 
-ghost use Rattle.std.specs.Prelude.{◌≡◌, ◌++◌, [], IfOk, OnOk, drop, length, map, min, replicate, codes, string_bytes, false, true};
+ghost use Rattle.std.specs.Prelude.{◌≡◌, ◌++◌, [], IfOk, OnOk, drop, length, map, min, replicate, codes};
+ghost use Rattle.std.specs.Prelude.{string_bytes, false, true};
 ghost use Rattle.htmd_markdown.specs.Tables as tables;
 ghost use Rattle.htmd_commonmark.specs.BlockMarkdown.{written_cells, written_rows};
 ghost use Rattle.htmd_commonmark.specs.BlockViews.{cells_of, rows_of};

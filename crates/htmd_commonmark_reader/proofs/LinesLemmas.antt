@@ -489,3 +489,9 @@ empty_length (b ∷ t) = grind (arith, nat_tests)
 
 pub blank_line : (m : ℕ) (s t : List ℕ) → t ≡ past_blanks s → (length t == 0) ≡ is_blank_text (spaces m s)
 blank_line m s t f = empty_length t ∙ ap is_empty f ∙ blank_text s ∙ sym (blank_spaces m s)
+
+-- how the columns of white space are counted
+pub ruleset indent_steps = (columns_small, indent_next, indent_ends)
+
+-- how a text is cut
+pub ruleset cut_steps = (columns_small, cut_next, cut_partly, cut_ends)

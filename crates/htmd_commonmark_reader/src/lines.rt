@@ -80,7 +80,7 @@ fn columns_at(column: usize, byte: u8) -> usize
 }
 
 /// Columns of white space that a text at a column begins with.
-#[tactic(auto, using(crate::proofs::LinesLemmas::columns_small, crate::proofs::LinesLemmas::indent_next, crate::proofs::LinesLemmas::indent_ends,))]
+#[tactic(auto, using(crate::proofs::LinesLemmas::indent_steps))]
 fn indent_at(column: usize, bytes: &[u8]) -> usize
     requires { column + 4 * length bytes.now ≤ widest }
     ensures { result ≡ spec.indent_at column bytes.now }
@@ -105,7 +105,7 @@ struct Cut<'a> {
 }
 
 /// A text at a column without so many columns of its white space, or all that it has.
-#[tactic(auto, using(crate::proofs::LinesLemmas::columns_small, crate::proofs::LinesLemmas::cut_next, crate::proofs::LinesLemmas::cut_partly, crate::proofs::LinesLemmas::cut_ends,))]
+#[tactic(auto, using(crate::proofs::LinesLemmas::cut_steps))]
 fn cut_at(column: usize, count: usize, text: &str) -> Cut<'_>
     requires { column + 4 * length text.now ≤ widest }
     ensures cut { cut_of result ≡ spec.cut_at column count text.now }

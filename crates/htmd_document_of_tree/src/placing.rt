@@ -1,5 +1,6 @@
 //! Anchors before what is seen there.
-ghost use Rattle.std.specs.Prelude.{◌≡◌, ◌<◌, ◌++◌, [], ◌∷◌, true, if◌then◌else◌, IfOk, OnOk, Some, None, MatchOption, length, map};
+ghost use Rattle.std.specs.Prelude.{◌≡◌, ◌<◌, ◌++◌, [], ◌∷◌, true, if◌then◌else◌, IfOk, OnOk, Some, None};
+ghost use Rattle.std.specs.Prelude.{MatchOption, length, map};
 ghost use Rattle.std.specs.Prelude.{string_bytes};
 ghost use Rattle.htmd_shown.specs.Kinds.{content_of};
 ghost use Rattle.htmd_shown.specs.SimpleTrees as simple;

@@ -1,5 +1,6 @@
 //! Decoders for characters of several bytes: what is read at once, from the first byte of a character to the answer.
-ghost use Rattle.std.specs.Prelude.{◌≡◌, ◌≤◌, ◌<◌, ◌⊎◌, ◌+◌, ◌-◌, ◌++◌, MatchBool, OnOk, drop, encode_utf8_all, string_bytes};
+ghost use Rattle.std.specs.Prelude.{◌≡◌, ◌≤◌, ◌<◌, ◌⊎◌, ◌+◌, ◌-◌, ◌++◌, MatchBool, OnOk, drop, encode_utf8_all};
+ghost use Rattle.std.specs.Prelude.{string_bytes};
 ghost use Rattle.std.specs.Char.{InScalarRange};
 ghost use Rattle.htmd_lexical.specs.Numbers as numbers;
 ghost use Rattle.htmd_encodings.specs.Sequences as spec;

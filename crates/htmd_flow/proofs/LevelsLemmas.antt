@@ -38,3 +38,6 @@ highest_at (x ∷ ts) zero t l e =
 highest_at (x ∷ ts) (suc k) t l e =
     let h : height (simple_of t) ≤ highest (map simple_of ts) = highest_at ts k t (omega arith) e in
     omega (arith, h)
+
+-- the highest of what is taken of a list
+pub ruleset highest_steps = (highest_at, highest_slice, highest_take)

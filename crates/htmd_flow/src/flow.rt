@@ -1,5 +1,5 @@
 //! What nodes give: leaves with what is around each, edges of blocks, and blocks, in order.
-#![tactic(auto, using(crate::proofs::NodesLemmas::content_lower, crate::proofs::LevelsLemmas::highest_at, crate::proofs::LevelsLemmas::highest_slice, crate::proofs::LevelsLemmas::highest_take))]
+#![tactic(auto, using(crate::proofs::NodesLemmas::content_lower, crate::proofs::LevelsLemmas::highest_steps))]
 
 mod of_descriptions;
 mod of_lists;

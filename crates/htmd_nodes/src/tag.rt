@@ -1,7 +1,10 @@
 //! HTML's frequent names of elements.
 ghost use Rattle.std.specs.Prelude.{◌≡◌, IfNone, IfSome};
 ghost use Rattle.htmd_nodes.specs.Tags.{tag_text, HasNoTag};
-ghost use Rattle.htmd_nodes.specs.TagLookup.{tag_beginning, tag_of, one_of, a_tags, b_tags, c_tags, d_tags, e_tags, f_tags, h_tags, i_tags, k_tags, l_tags, m_tags, n_tags, o_tags, p_tags, q_tags, r_tags, s_tags, t_tags, u_tags, v_tags, w_tags, x_tags};
+ghost use Rattle.htmd_nodes.specs.TagLookup.{tag_beginning, tag_of, one_of, a_tags, b_tags, c_tags, d_tags};
+ghost use Rattle.htmd_nodes.specs.TagLookup.{e_tags, f_tags, h_tags, i_tags, k_tags, l_tags, m_tags, n_tags};
+ghost use Rattle.htmd_nodes.specs.TagLookup.{o_tags, p_tags, q_tags, r_tags, s_tags, t_tags, u_tags, v_tags};
+ghost use Rattle.htmd_nodes.specs.TagLookup.{w_tags, x_tags};
 
 use crate::frequent_tags::frequent;
 

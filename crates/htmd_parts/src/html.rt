@@ -5,7 +5,8 @@ ghost use Rattle.htmd_commonmark_reading.specs.Markup.{Blocks};
 ghost use Rattle.htmd_commonmark_reading.specs.Rendering as spec;
 ghost use Rattle.htmd_parts.specs.Parts as part;
 ghost use Rattle.htmd_parts.specs.PartViews.{tag_of, end_of, part_of, all_parts_of};
-ghost use Rattle.htmd_parts.specs.Machine.{page, page_of, more, line, new_line, with_tag, with_end, with_image_end, with_parts};
+ghost use Rattle.htmd_parts.specs.Machine.{page, page_of, more, line, new_line, with_tag, with_end};
+ghost use Rattle.htmd_parts.specs.Machine.{with_image_end, with_parts};
 
 use crate::parts::{Part, Tag, TagEnd};
 use crate::tags::{

@@ -1,5 +1,5 @@
 //! Lists, and lists of terms and what they mean.
-#![tactic(auto, using(crate::proofs::NodesLemmas::content_lower, crate::proofs::LevelsLemmas::highest_at, crate::proofs::LevelsLemmas::highest_slice, crate::proofs::LevelsLemmas::highest_take))]
+#![tactic(auto, using(crate::proofs::NodesLemmas::content_lower, crate::proofs::LevelsLemmas::highest_steps))]
 
 ghost use Rattle.std.specs.Prelude.{◌≡◌, ◌<◌, ◌++◌, ◌∷◌, [], true, IfOk, OnOk, map};
 ghost use Rattle.std.specs.List.{list_all, prefix_len};

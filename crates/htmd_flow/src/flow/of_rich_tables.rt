@@ -1,5 +1,5 @@
 //! Tables of rich documents.
-#![tactic(auto, using(crate::proofs::NodesLemmas::content_lower, crate::proofs::LevelsLemmas::highest_at, crate::proofs::LevelsLemmas::highest_slice, crate::proofs::LevelsLemmas::highest_take))]
+#![tactic(auto, using(crate::proofs::NodesLemmas::content_lower, crate::proofs::LevelsLemmas::highest_steps))]
 
 ghost use Rattle.std.specs.Prelude.{◌≡◌, ◌≤◌, ◌||◌, if◌then◌else◌, IfOk, OnOk, map};
 ghost use Rattle.htmd_lexical.specs.Attributes.{pairs_of};

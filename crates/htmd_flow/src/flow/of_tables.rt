@@ -1,5 +1,5 @@
 //! Tables.
-#![tactic(auto, using(crate::proofs::NodesLemmas::content_lower, crate::proofs::LevelsLemmas::highest_at, crate::proofs::LevelsLemmas::highest_slice, crate::proofs::LevelsLemmas::highest_take))]
+#![tactic(auto, using(crate::proofs::NodesLemmas::content_lower, crate::proofs::LevelsLemmas::highest_steps))]
 
 ghost use Rattle.std.specs.Prelude.{◌≡◌, ◌++◌, false, IfOk, OnOk, map, flat_map};
 ghost use Rattle.std.specs.List.{list_all};

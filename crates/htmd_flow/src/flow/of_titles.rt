@@ -1,5 +1,5 @@
 //! Elements of rich documents with titles: `details` and figures; and titles elsewhere.
-#![tactic(auto, using(crate::proofs::NodesLemmas::content_lower, crate::proofs::LevelsLemmas::highest_at, crate::proofs::LevelsLemmas::highest_slice, crate::proofs::LevelsLemmas::highest_take))]
+#![tactic(auto, using(crate::proofs::NodesLemmas::content_lower, crate::proofs::LevelsLemmas::highest_steps))]
 
 ghost use Rattle.std.specs.Prelude.{◌≡◌, false, IfOk, OnOk};
 ghost use Rattle.htmd_document.specs.DocumentViews.{blocks_of};
