@@ -192,12 +192,11 @@ fn fills(text: &[u8], tag: Option<usize>) -> bool
     }
 }
 
-/// The seventh kind: a complete tag, alone in its line.
+/// The seventh kind: a complete tag, alone in its line, but for an open tag of a text element.
 fn is_lone_tag(text: &[u8]) -> bool
     ensures { result ≡ spec.is_lone_tag text.now }
 {
-    !is_of_text(without_slash(text))
-        && (fills(text, open_tag(text)) || fills(text, closing_tag(text)))
+    (!is_of_text(text) && fills(text, open_tag(text))) || fills(text, closing_tag(text))
 }
 
 /// A capital or small letter after `!`.

@@ -68,3 +68,7 @@ html_to_blank_line = refl
 pub html_lone_tag : read (codes "<x y='z>'> \na\n\nb\n</x>\n")
     ≡ two (html_block (codes "<x y='z>'> \na")) (paragraph (letters (codes "b ") (raw (codes "</x>") no_inlines)))
 html_lone_tag = refl
+
+-- so does an end tag of an element whose content is text
+pub html_end_tag : read (codes "</pre>\n*a*\n") ≡ one (html_block (codes "</pre>\n*a*"))
+html_end_tag = refl

@@ -145,9 +145,9 @@ abbrev pub fills : List ℕ → Option (List ℕ) → Bool
 fills s None = false
 fills s (Some tag) = is_blank_text (drop (length tag) s)
 
--- the seventh kind: a complete tag, alone in its line
+-- the seventh kind: a complete tag, alone in its line, but for an open tag of a text element
 abbrev pub is_lone_tag : List ℕ → Bool
-is_lone_tag s = not (is_of_text (without_slash s)) && (fills s (open_tag s) || fills s (closing_tag s))
+is_lone_tag s = (not (is_of_text s) && fills s (open_tag s)) || fills s (closing_tag s)
 
 -- After `<`: what ends the block that begins so, by nothing if a blank line does. A block of the seventh kind doesn't
 -- interrupt a paragraph.

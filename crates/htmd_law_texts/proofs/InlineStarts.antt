@@ -180,6 +180,12 @@ drop_front : (s u : List ℕ) → drop (length s) (s ++ u) ≡ u
 drop_front [] u = refl
 drop_front (c ∷ s) u = drop_front s u
 
+-- no open tag is alone, so what is left is an end tag
+not_open : (t : List ℕ) → fills t (open_tag t) ≡ false → is_lone_tag t ≡ fills t (closing_tag t)
+not_open t h =
+    ap (λ b. (not (is_of_text t) && b) || fills t (closing_tag t)) h
+    ∙ ap (λ b. b || fills t (closing_tag t)) (and_right (not (is_of_text t)) false refl)
+
 title_not_alone : (title u : List ℕ) → is_blank_text u ≡ false → is_lone_tag (title_start title u) ≡ false
 title_not_alone title u h =
     let t = title_start title u in
@@ -188,9 +194,8 @@ title_not_alone title u h =
     ap (λ l. codes "abbr title=\"" ++ l) (sym (append_assoc (html.escaped_value title) (34 ∷ 62 ∷ []) u)) in
     let text : is_blank_text (drop (length tag) t) ≡ false =
     ap is_blank_text (ap (drop (length tag)) split ∙ drop_front tag u) ∙ h in
-    and_right (not (is_of_text (without_slash t))) (fills t (open_tag t) || fills t (closing_tag t))
-    (ap (λ o. fills t o || fills t (closing_tag t)) (title_opens title u)
-    ∙ ap (λ b. b || fills t (closing_tag t)) text)
+    let opens : fills t (open_tag t) ≡ false = ap (fills t) (title_opens title u) ∙ text in
+    not_open t opens
 
 title_ends : (title u : List ℕ) → is_blank_text u ≡ false → block_ends alone (title_start title u) ≡ None
 title_ends title u h = ap (λ b. if b then Some [] else None) (title_not_alone title u h)
@@ -371,7 +376,7 @@ autolink_ends a c s r l w =
     (rw (name, slash) refl) in
     let opens : open_tag t ≡ None = rw l w.no_tag in
     let close : closing_tag t ≡ None = rw (letter_other c 47 l refl) refl in
-    let lone : is_lone_tag t ≡ false = rw (opens, close) (and_right _ false refl) in
+    let lone : is_lone_tag t ≡ false = rw (opens, close) (ap (λ b. b || false) (and_right _ false refl)) in
     let last : (is_block_tag (without_slash t) || is_alone a && is_lone_tag t) ≡ false =
     rw (lone, same, block) (and_right (is_alone a) false refl) in
     rw (text, letter_other c 33 l refl, letter_other c 63 l refl, last) refl
@@ -406,9 +411,8 @@ not_alone id m =
     ap (λ l. codes "a id=\"" ++ l) (sym (append_assoc (html.escaped_value id) (34 ∷ 62 ∷ []) u)) in
     let text : is_blank_text (drop (length tag) t) ≡ false =
     ap is_blank_text (ap (drop (length tag)) split ∙ drop_front tag u) in
-    and_right (not (is_of_text (without_slash t))) (fills t (open_tag t) || fills t (closing_tag t))
-    (ap (λ o. fills t o || fills t (closing_tag t)) (tag_opens id u)
-    ∙ ap (λ b. b || fills t (closing_tag t)) text)
+    let opens : fills t (open_tag t) ≡ false = ap (fills t) (tag_opens id u) ∙ text in
+    not_open t opens
 
 anchor_ends : (a : After) (id m : List ℕ) → block_ends a (anchor_start id (codes "</a>" ++ m)) ≡ None
 anchor_ends a id m =
