@@ -70,9 +70,13 @@ _htmd() {
         [[ ${COMPREPLY[0]} != *= ]] || compopt -o nospace
         [[ $option != *=* || $COMP_WORDBREAKS != *=* ]] || COMPREPLY=("${COMPREPLY[@]#*=}")
     else
+        local endings=('[Hh][Tt][Mm][Ll]' '[Hh][Tt][Mm]' '[Xx][Hh][Tt][Mm][Ll]')
+        if [[ $line == *' --from-markdown '* ]]; then
+            endings=('[Mm][Dd]' '[Mm][Aa][Rr][Kk][Dd][Oo][Ww][Nn]')
+        fi
         mapfile -t COMPREPLY < <(
             compgen -d -- "$word"
-            for ending in '[Hh][Tt][Mm][Ll]' '[Hh][Tt][Mm]' '[Xx][Hh][Tt][Mm][Ll]'; do
+            for ending in "${endings[@]}"; do
                 compgen -f -X "!*.$ending" -- "$word"
             done
         )
@@ -106,6 +110,8 @@ const ZSH_TAIL: &str = r#"    )
         _files -/
     elif [[ $PREFIX == -* ]]; then
         _describe -o option complete -- open -S ''
+    elif (( ${words[(I)--from-markdown]} )); then
+        _files -g '*.(#i)(md|markdown)'
     else
         _files -g '*.(#i)(html|htm|xhtml)'
     fi
@@ -120,7 +126,8 @@ fi
 
 /// What comes before the options.
 const FISH_HEAD: &str = r#"# Completions of htmd for fish.
-complete -c htmd -k -a '(__fish_complete_suffix .html .htm .xhtml)'
+complete -c htmd -n 'not __fish_contains_opt from-markdown' -k -a '(__fish_complete_suffix .html .htm .xhtml)'
+complete -c htmd -n '__fish_contains_opt from-markdown' -k -a '(__fish_complete_suffix .md .markdown)'
 "#;
 
 /// What offers folders as the value of an option.

@@ -34,13 +34,17 @@ htmd rejects pages in which an end tag is missing or an element isn't allowed wh
 A
 .I FILE
 may be a folder.
-It stands for all files below it whose names end in .html, .htm or .xhtml, in either case.
+It stands for all files below it whose names end in .html, .htm or .xhtml, or with
+.B \-\-from\-markdown
+in .md or .markdown, in either case.
 What they become gets the same paths below the folder that
 .B \-o
 names, with the ending .md (.json with
-.B \-\-mdast
-and .jsonl with
-.BR \-\-chunks ):
+.BR \-\-mdast ,
+\&.jsonl with
+.B \-\-chunks
+and .html with
+.BR \-\-html ):
 .PP
 .RS 4
 .EX

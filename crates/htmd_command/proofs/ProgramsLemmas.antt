@@ -20,6 +20,7 @@ use Rattle.htmd_files.specs.declared.planning.Page.{Page}
 use Rattle.htmd_files.specs.declared.faults.PlanFault.{PlanFault}
 use Rattle.htmd_files.specs.declared.faults.PlanFault.TheVariants as plan_fault
 use Rattle.htmd_files.specs.FilePlans as plans
+use Rattle.htmd_files.specs.Names.{Naming}
 use Rattle.htmd_files.specs.PlanViews.{pages_of}
 use Rattle.htmd_files.specs.Words.{Job, job}
 use Rattle.htmd_files.specs.WordViews.{IsWordFault, text_of, texts_of}
@@ -30,7 +31,7 @@ use Rattle.htmd_folders.specs.declared.operands.Missed.{Missed}
 use Rattle.htmd_folders.specs.PlanViews.{missed_in, IsNoPlan}
 use Rattle.htmd_folders.specs.Plans.{AreFinished, IsPlanOf}
 use Rattle.htmd_command.specs.Programs.{IsOfFiles, Runs, RunsJob, ShowsInput, ShowsNamed, WritesJob, WritesPages}
-use Rattle.htmd_command.specs.Programs.{becomes_in, extension_by}
+use Rattle.htmd_command.specs.Programs.{becomes_in, naming_by}
 use Rattle.htmd_command.specs.Streams.{Stream, IsUntouched, SaysMemory, Shows}
 
 -- ---- the words
@@ -131,11 +132,12 @@ finished_as false false false stem (other, e) =
     let first : 100 ≡ 108 = ap (λ s. get_or s 0 0) (ends stem (codes "md") other (codes ".htmd-partial") e) in
     absurd (omega (arith, first))
 
-pub are_finished : (name : List ℕ) (options : List (String Global)) → name ≡ extension_by options
-    → AreFinished name
-are_finished name options e =
+pub are_finished : (named : Naming) (options : List (String Global)) → named ≡ naming_by options
+    → AreFinished named.extension
+are_finished named options e =
     let settings = (request_by options).settings in
-    subst AreFinished (sym e) (finished_as (writes_html settings) (is_some settings.chunks) settings.mdast)
+    subst (λ n. AreFinished n.extension) (sym e)
+    (finished_as (writes_html settings) (is_some settings.chunks) settings.mdast)
 
 -- ---- runs of jobs
 
@@ -186,12 +188,12 @@ module _ {W E : Type 0} (asked : Job) (options : List (String Global)) (before a
   ran_out m u s e = inr (inl ((m, u), s, e))
 
   pub unplanned : (missed : List (List ℕ)) (reason : plans.Fault) → IsOfFiles asked options
-      → IsPlanOf before asked (extension_by options) missed (Err reason) → Makes before after []
+      → IsPlanOf before asked (naming_by options) missed (Err reason) → Makes before after []
       → IsUntouched output → status ≡ 2 → Job_run
   unplanned missed reason f is m u e = inl (inr (f, missed, reason, is), (m, u), e)
 
   pub run_refused : (refused : PlanFault) → IsOfFiles asked options
-      → IsNoPlan before asked (extension_by options) refused → Makes before after [] → IsUntouched output
+      → IsNoPlan before asked (naming_by options) refused → Makes before after [] → IsUntouched output
       → (refused ≡ plan_fault.Memory → SaysMemory errors × (status ≡ 1))
       → (refused ≢ plan_fault.Memory → status ≡ 2) → Job_run
   run_refused plan_fault.Memory f h m u memory other = ran_out m u (memory refl).0 (memory refl).1
@@ -234,14 +236,14 @@ module _ {W E : Type 0} (asked : Job) (options : List (String Global)) (before a
 
   pub run_shown : (between : Option (List Change)) (name : List ℕ) (missed : List (List ℕ))
       → IsOfFiles asked options
-      → IsPlanOf before asked (extension_by options) missed (Ok (plans.standard_output name))
+      → IsPlanOf before asked (naming_by options) missed (Ok (plans.standard_output name))
       → Makes before between [] → Makes between after []
       → ShowsInput options between name input output errors status → Job_run
   run_shown between name missed f is m n (inl (dash, shown, l)) = inr (inr (inl (record {
     cause = inr (inr (
       f,
       missed,
-      subst (λ x. IsPlanOf before asked (extension_by options) missed (Ok (plans.standard_output x))) dash is,
+      subst (λ x. IsPlanOf before asked (naming_by options) missed (Ok (plans.standard_output x))) dash is,
     ));
     same = made_then before between after m n;
     shown = shown;
@@ -261,7 +263,7 @@ module _ {W E : Type 0} (asked : Job) (options : List (String Global)) (before a
 
   pub run_written : (between : Option (List Change)) (pages : List Page) (missed : List (List ℕ))
       → IsOfFiles asked options
-      → IsPlanOf before asked (extension_by options) missed (Ok (plans.files (pages_of pages)))
+      → IsPlanOf before asked (naming_by options) missed (Ok (plans.files (pages_of pages)))
       → Makes before between [] → IsUntouched output
       → WritesJob asked options pages missed between after errors status → Job_run
   run_written between pages missed f is m u (inl (left, failed, w)) = inr (inr (inr (inr (record {
@@ -293,6 +295,8 @@ words_refused given before input output errors status (word_fault.Twice first se
 words_refused given before input output errors status (word_fault.Links word) h u memory other =
     inl ((_, h), (nothing_made before, u), other (λ e. absurd (cc)))
 words_refused given before input output errors status (word_fault.NeedsOutput option) h u memory other =
+    inl ((_, h), (nothing_made before, u), other (λ e. absurd (cc)))
+words_refused given before input output errors status (word_fault.LinksStay option) h u memory other =
     inl ((_, h), (nothing_made before, u), other (λ e. absurd (cc)))
 
 -- a job without files

@@ -1,13 +1,15 @@
 -- What a run of the program changes, writes and answers, case by case.
 use Rattle.std.specs.Prelude.{◌≡◌, ◌≢◌, ◌≤◌, ◌↔◌, ◌⊎◌, ℕ, Bool, true, false, List, [], codes, Option, Some, IfSome, Ok}
-use Rattle.std.specs.Prelude.{Err}
+use Rattle.std.specs.Prelude.{Err, if◌then◌else◌}
 use Rattle.std.specs.List.{AllByRecursion}
 use Rattle.std.specs.declared.alloc.Global.{Global}
 use Rattle.std.specs.declared.string.String.{String}
+use Rattle.htmd.specs.PageSettings.{Settings, is_markdown}
 use Rattle.htmd_cli.specs.Options.{Request, are_known, extension, request_by}
 use Rattle.htmd_cli.specs.Rows.{Succeeds}
 use Rattle.htmd_files.specs.declared.planning.Page.{Page}
 use Rattle.htmd_files.specs.FilePlans.{Fault, files, standard_output}
+use Rattle.htmd_files.specs.Names.{Kind, Naming, html, markdown}
 use Rattle.htmd_files.specs.PlanViews.{pages_of}
 use Rattle.htmd_files.specs.Words.{Job, job}
 use Rattle.htmd_files.specs.Words as words
@@ -31,9 +33,16 @@ pub record IsOfFiles (asked : Job) (options : List (String Global)) : Type 0 whe
   pub known : are_known options ≡ true
   pub converts : (request_by options).shows ≡ false
 
--- what the names of outputs in a folder end with
-abbrev pub extension_by : List (String Global) → List ℕ
-extension_by options = extension (request_by options).settings
+-- pages are Markdown if their bytes are read so, else HTML
+abbrev pub kind : Settings → Kind
+kind settings = if is_markdown settings then markdown else html
+
+-- which files of a folder are pages, and what the names of outputs in one end with
+abbrev pub naming : Settings → Naming
+naming settings = record { kind = kind settings; extension = extension settings }
+
+abbrev pub naming_by : List (String Global) → Naming
+naming_by options = naming (request_by options).settings
 
 -- ---- nothing is done
 
@@ -46,7 +55,7 @@ abbrev pub CannotDo : Job → List (String Global) → Option (List Change) → 
 CannotDo asked options before =
     ((asked.operands ≢ []) × (are_known options ≡ false))
     ⊎ (IsOfFiles asked options × (missed : List (List ℕ)) × (fault : Fault)
-    × IsPlanOf before asked (extension_by options) missed (Err fault))
+    × IsPlanOf before asked (naming_by options) missed (Err fault))
 
 -- memory runs out before anything is done, and standard error says so: the status is 1
 abbrev pub RunsOut : {W E : Type 0} → Option (List Change) → Option (List Change) → Stream W → Stream E → ℕ
@@ -62,7 +71,7 @@ pub record ConvertsInput {W : Type 0} (asked : Job) (options : List (String Glob
     (before after : Option (List Change)) (input : Option (List ℕ)) (output : Stream W) (status : ℕ)
     : Type 0 where
   pub cause : (asked.operands ≡ []) ⊎ (((request_by options).shows ≡ true) ⊎ (IsOfFiles asked options
-      × (missed : List (List ℕ)) × IsPlanOf before asked (extension_by options) missed
+      × (missed : List (List ℕ)) × IsPlanOf before asked (naming_by options) missed
       (Ok (standard_output (codes "-")))))
   pub same : Makes before after []
   pub shown : Shows (request_by options) input output status
@@ -90,7 +99,7 @@ pub record ShowsFile {W : Type 0} (asked : Job) (options : List (String Global))
   pub of_files : IsOfFiles asked options
   pub name : List ℕ
   pub missed : List (List ℕ)
-  pub planned : IsPlanOf before asked (extension_by options) missed (Ok (standard_output name))
+  pub planned : IsPlanOf before asked (naming_by options) missed (Ok (standard_output name))
   pub same : Makes before after []
   pub shown : ShowsNamed (request_by options) before name output status
 
@@ -130,7 +139,7 @@ pub record ConvertsFiles {W : Type 0} (asked : Job) (options : List (String Glob
   pub missed : List (List ℕ)
   pub left : ℕ
   pub failed : ℕ
-  pub planned : IsPlanOf before asked (extension_by options) missed (Ok (files (pages_of pages)))
+  pub planned : IsPlanOf before asked (naming_by options) missed (Ok (files (pages_of pages)))
   pub written : IfSome before (λ past.
       WritesPages (becomes_in asked (request_by options) pages) asked.keeps_newer pages missed (Some past) after left
       failed status)

@@ -1,7 +1,9 @@
 //! The program: its words, files and streams.
 ghost use Rattle.std.specs.Prelude.{◌≡◌, ◌≢◌, ◌≤◌, ◌↔◌, ◌⊎◌, [], ℕ, false};
+ghost use Rattle.htmd.specs.PageSettings.{settings_in};
 ghost use Rattle.htmd_cli.specs.Options.{request_by};
 ghost use Rattle.htmd_cli.specs.OptionRows.{request_in};
+ghost use Rattle.htmd_files.specs.NameViews.{kind_of, naming_of};
 ghost use Rattle.htmd_files.specs.WordViews.{job_in, texts_of};
 ghost use Rattle.htmd_folders.specs.Changes.{Makes};
 ghost use Rattle.htmd_folders.specs.FolderConversions.{AreApart};
@@ -9,15 +11,16 @@ ghost use Rattle.htmd_folders.specs.Pages.{or_copy};
 ghost use Rattle.htmd_folders.specs.PlanViews.{missed_in};
 ghost use Rattle.htmd_command.specs.PageResults.{request_for_file};
 ghost use Rattle.htmd_command.specs.Programs.{IsOfFiles, Runs, RunsInput, RunsJob, ShowsInput, ShowsNamed, WritesJob};
-ghost use Rattle.htmd_command.specs.Programs.{WritesPages};
+ghost use Rattle.htmd_command.specs.Programs.{WritesPages, kind, naming as naming_for};
 ghost use Rattle.htmd_command.specs.Streams.{stream, SaysMemory, Shows};
 
 use crate::leads::led_pages;
 use crate::requested::Requested;
+use htmd::PageSettings;
 use htmd_cli::{
     OptionFault, Request, Sink, Source, command, read_options, say_fault, say_warnings,
 };
-use htmd_files::{FilePlan, Job, Page, PlanFault, WordFault, job_of};
+use htmd_files::{FilePlan, Job, Naming, Page, PageKind, PlanFault, WordFault, job_of};
 use htmd_folders::{
     Conversion, Lines, Missed, Progress, RunOptions, ShownName, Store, StoreFault, Tally, Unopened,
     find_plan, run_pages, write_total,
@@ -124,7 +127,7 @@ fn run_job<S: Store, R: Source, W: Sink, E: Sink>(
         (stream E.contents E.has_failed errors.old errors.new) result }
     ensures status { result ≤ 2 }
 {
-    let (plan, missed) = match find_plan(of.alloc, store, of.job, of.request.extension()) {
+    let (plan, missed) = match find_plan(of.alloc, store, of.job, naming(of.request)) {
         Ok(found) => found,
         Err(fault) => return fail_plan(store, errors, &fault),
     };
@@ -135,6 +138,26 @@ fn run_job<S: Store, R: Source, W: Sink, E: Sink>(
         FilePlan::Files { pages } => {
             write_pages(of, store, pages.as_slice(), missed.as_slice(), errors)
         }
+    }
+}
+
+// Which files of a folder are pages, and how outputs in one are named.
+fn naming<'a>(request: &Request<'a>) -> Naming<'a>
+    ensures { naming_of result ≡ naming_for (request_in request.now).settings }
+{
+    Naming {
+        kind: page_kind(request.settings()),
+        extension: request.extension(),
+    }
+}
+
+fn page_kind(settings: &PageSettings<'_>) -> PageKind
+    ensures { kind_of result ≡ kind (settings_in settings.now) }
+{
+    if settings.is_markdown() {
+        PageKind::Markdown
+    } else {
+        PageKind::Html
     }
 }
 

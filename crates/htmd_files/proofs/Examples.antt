@@ -1,7 +1,7 @@
 -- Worked rows: names, paths, words and plans.
 use Rattle.std.proofs.Common.{◌≡◌, ℕ, true, false, List, [], ◌∷◌, Option, Some, None, Ok, Err, refl}
 use Rattle.std.specs.Prelude.{codes}
-use Rattle.htmd_files.specs.Names.{is_hidden, is_page, with_extension}
+use Rattle.htmd_files.specs.Names.{Naming, html, markdown, is_hidden, is_page, with_extension}
 use Rattle.htmd_files.specs.Paths.{normal, is_same, place, is_below, file_name}
 use Rattle.htmd_files.specs.Relative.{relative}
 use Rattle.htmd_files.specs.Words as words
@@ -9,16 +9,25 @@ use Rattle.htmd_files.specs.FilePlans as spec
 
 -- ---- names
 
-page-html : is_page (codes "a/b.HTML") ≡ true
+page-html : is_page html (codes "a/b.HTML") ≡ true
 page-html = refl
 
-page-xhtml : is_page (codes "b.xhtml") ≡ true
+page-xhtml : is_page html (codes "b.xhtml") ≡ true
 page-xhtml = refl
 
-page-htmlx : is_page (codes "b.htmlx") ≡ false
+page-htmlx : is_page html (codes "b.htmlx") ≡ false
 page-htmlx = refl
 
-page-folder : is_page (codes "a.html/b") ≡ false
+page-markdown : is_page markdown (codes "a.html/b.MarkDown") ≡ true
+page-markdown = refl
+
+page-markdown_html : is_page markdown (codes "b.html") ≡ false
+page-markdown_html = refl
+
+page-html_markdown : is_page html (codes "b.md") ≡ false
+page-html_markdown = refl
+
+page-folder : is_page html (codes "a.html/b") ≡ false
 page-folder = refl
 
 hidden-folder : is_hidden (codes "a/.git/config") ≡ true
@@ -27,10 +36,25 @@ hidden-folder = refl
 hidden-not : is_hidden (codes "a.b/c.") ≡ false
 hidden-not = refl
 
-name-html : with_extension (codes "md") (codes "a.b/c.d.htm") ≡ codes "a.b/c.d.md"
+abbrev of_html : List ℕ → Naming
+of_html extension = record { kind = html; extension = extension }
+
+abbrev of_markdown : List ℕ → Naming
+of_markdown extension = record { kind = markdown; extension = extension }
+
+name-html : with_extension (of_html (codes "md")) (codes "a.b/c.d.htm") ≡ codes "a.b/c.d.md"
 name-html = refl
 
-name-other : with_extension (codes "jsonl") (codes "notes.txt") ≡ codes "notes.txt.jsonl"
+name-markdown : with_extension (of_markdown (codes "html")) (codes "a.md/c.MD") ≡ codes "a.md/c.html"
+name-markdown = refl
+
+name-same : with_extension (of_markdown (codes "md")) (codes "a.markdown") ≡ codes "a.md"
+name-same = refl
+
+name-html_in_markdown : with_extension (of_markdown (codes "md")) (codes "a.html") ≡ codes "a.html.md"
+name-html_in_markdown = refl
+
+name-other : with_extension (of_html (codes "jsonl")) (codes "notes.txt") ≡ codes "notes.txt.jsonl"
 name-other = refl
 
 -- ---- paths
@@ -124,6 +148,20 @@ words-copy : words.job (codes "--copy" ∷ codes "-o" ∷ codes "out" ∷ codes 
     ≡ Ok (record (asked (codes "site" ∷ []) (Some (codes "out")) []) { copies = true })
 words-copy = refl
 
+-- the HTML of Markdown keeps links as they are
+words-links_stay : words.job
+    (codes "--html" ∷ codes "--links=md" ∷ codes "--from-markdown" ∷ codes "-oout" ∷ codes "a" ∷ [])
+    ≡ Err (words.links_stay (codes "--links=md"))
+words-links_stay = refl
+
+words-base_of_html : words.job (codes "--from-markdown" ∷ codes "--base=https://a/" ∷ codes "--html" ∷ [])
+    ≡ Err (words.links_stay (codes "--base"))
+words-base_of_html = refl
+
+words-base : words.job (codes "--from-markdown" ∷ codes "--base=https://a/" ∷ [])
+    ≡ Ok (asked [] None (codes "--from-markdown" ∷ codes "--base=https://a/" ∷ []))
+words-base = refl
+
 words-links_as_text : words.job (codes "--links=text" ∷ [])
     ≡ Ok (record words.no_job { options = codes "--links=text" ∷ [] })
 words-links_as_text = refl
@@ -140,10 +178,10 @@ abbrev site : spec.Operand
 site = spec.folder (codes "site") (codes "z.html" ∷ codes "b/a.HTM" ∷ codes "a.png" ∷ codes "a.xhtml" ∷ [])
 
 abbrev named : List ℕ → Option spec.Destination
-named path = Some (record { path = path; is_folder = false; extension = codes "md"; copies = false })
+named path = Some (record { path = path; is_folder = false; naming = of_html (codes "md"); copies = false })
 
 abbrev to_folder : List ℕ → Option spec.Destination
-to_folder path = Some (record { path = path; is_folder = true; extension = codes "md"; copies = false })
+to_folder path = Some (record { path = path; is_folder = true; naming = of_html (codes "md"); copies = false })
 
 -- the page of a file
 abbrev page : List ℕ → List ℕ → spec.Page
@@ -159,7 +197,7 @@ abbrev copy_at : List ℕ → List ℕ → List ℕ → spec.Page
 copy_at path input output = record { input = input; output = output; path_in_folder = Some path; is_copy = true }
 
 abbrev copied_to : List ℕ → Option spec.Destination
-copied_to path = Some (record { path = path; is_folder = true; extension = codes "md"; copies = true })
+copied_to path = Some (record { path = path; is_folder = true; naming = of_html (codes "md"); copies = true })
 
 plan-folder : spec.plan (site ∷ spec.file (codes "./c.html") ∷ []) (to_folder (codes "out"))
     ≡ Ok (spec.files (page_at (codes "a.xhtml") (codes "site/a.xhtml") (codes "out/a.md")
@@ -193,8 +231,20 @@ plan-copies_shared : spec.plan (spec.folder (codes "a") (codes "b.html" ∷ code
     ≡ Err (spec.shared (codes "a/b.html") (codes "a/b.md") (codes "out/b.md"))
 plan-copies_shared = refl
 
+-- of Markdown, pages are what ends so, and what ends as HTML is copied
+plan-markdown : spec.plan
+    (spec.folder (codes "a") (codes "c.markdown" ∷ codes "b.html" ∷ codes "b.MD" ∷ []) ∷ [])
+    (Some (record { path = codes "out"; is_folder = true; naming = of_markdown (codes "html"); copies = true }))
+    ≡ Err (spec.shared (codes "a/b.MD") (codes "a/b.html") (codes "out/b.html"))
+plan-markdown = refl
+
+plan-markdown_in_place : spec.plan (spec.file (codes "a.md") ∷ [])
+    (Some (record { path = codes "."; is_folder = true; naming = of_markdown (codes "md"); copies = false }))
+    ≡ Err (spec.overwritten (codes "a.md") (codes "./a.md"))
+plan-markdown_in_place = refl
+
 plan-json : spec.plan (spec.file (codes "a.html") ∷ [])
-    (Some (record { path = codes "b"; is_folder = true; extension = codes "json"; copies = false }))
+    (Some (record { path = codes "b"; is_folder = true; naming = of_html (codes "json"); copies = false }))
     ≡ Ok (spec.files (page (codes "a.html") (codes "b/a.json") ∷ []))
 plan-json = refl
 

@@ -6,7 +6,7 @@ use Rattle.std.proofs.Common.{arith, Option, Some, None, Result, Ok, Err}
 use Rattle.std.specs.Prelude.{codes, filter, find, unwrap_or}
 use Rattle.std.specs.List.{AllByRecursion}
 use Rattle.std.proofs.lemmas.List.Elements.{All-from_recursion}
-use Rattle.htmd_files.specs.Names.{is_hidden, is_page, is_unfinished, page_stem, with_extension}
+use Rattle.htmd_files.specs.Names.{Kind, is_hidden, is_page, is_unfinished, page_stem, with_extension}
 use Rattle.htmd_files.specs.Paths.{Place, place, below, file_name, is_below, is_within, slash_after}
 use Rattle.htmd_files.specs.FilePlans.{Operand, Destination, Page, FilePlan, Fault, standard_input, file, folder}
 use Rattle.htmd_files.specs.FilePlans.{is_outside, if_below, pages_at, pages_to, names_folder, single_input, named_page}
@@ -18,17 +18,17 @@ use Rattle.htmd_files.proofs.UnfinishedLemmas.{finished_below}
 use Rattle.htmd_files.proofs.PromisesLemmas.{either, not_outside, pages_or_none, no_pages, not_refused}
 
 abbrev Named : Destination → List Page → Type 0
-Named out pages = AllByRecursion (IsNamed out.extension) pages
+Named out pages = AllByRecursion (IsNamed out.naming.extension) pages
 
 -- a page whose output is named after a path
 named_below : (out : Destination) (path : List ℕ) (page : Page)
-    → page.output ≡ below out.path (with_extension out.extension path) → HasExtension out.extension page
+    → page.output ≡ below out.path (with_extension out.naming path) → HasExtension out.naming.extension page
 named_below out path page e =
-    let stem = unwrap_or (page_stem path) path in
+    let stem = unwrap_or (page_stem out.naming.kind path) path in
     let folder = out.path ++ slash_after out.path in (
       folder ++ stem,
-      e ∙ sym (append_assoc folder (stem ++ codes ".") out.extension)
-          ∙ ap (λ name. name ++ out.extension) (sym (append_assoc folder stem (codes "."))),
+      e ∙ sym (append_assoc folder (stem ++ codes ".") out.naming.extension)
+          ∙ ap (λ name. name ++ out.naming.extension) (sym (append_assoc folder stem (codes "."))),
     )
 
 named_folder : (out : Destination) (from : List ℕ) (paths : List (List ℕ))
@@ -59,24 +59,25 @@ neither true b c e = absurd (false≢true e)
 neither false true c e = absurd (false≢true e)
 neither false false c e = refl
 
-finished_copied : (holds : Bool) (out : Place) (from : List ℕ) (paths : List (List ℕ))
-    → AllByRecursion IsFinished (filter (is_copied holds out from) paths)
-finished_copied holds out from [] = tt
-finished_copied holds out from (path ∷ paths) =
-    either (is_copied holds out from path)
+finished_copied : (kind : Kind) (holds : Bool) (out : Place) (from : List ℕ) (paths : List (List ℕ))
+    → AllByRecursion IsFinished (filter (is_copied kind holds out from) paths)
+finished_copied kind holds out from [] = tt
+finished_copied kind holds out from (path ∷ paths) =
+    either (is_copied kind holds out from path)
     (λ t. rw t (
-      neither (is_page path) (is_unfinished path)
+      neither (is_page kind path) (is_unfinished path)
           (not (is_hidden path || (holds && is_below out (place (below from path))))) t,
-      finished_copied holds out from paths,
+      finished_copied kind holds out from paths,
     ))
-    (λ t. rw t (finished_copied holds out from paths))
+    (λ t. rw t (finished_copied kind holds out from paths))
 
 finished_among : (out : Destination) (from : List ℕ) (paths : List (List ℕ))
     → AllByRecursion IsFinished (copies_among out from paths)
 finished_among out from paths =
-    let copied = filter (is_copied (is_within from out.path) (place out.path) from) paths in
+    let kind = out.naming.kind in
+    let copied = filter (is_copied kind (is_within from out.path) (place out.path) from) paths in
     either out.copies
-    (λ t. rw t (finished_in_order copied (finished_copied (is_within from out.path) (place out.path) from paths)))
+    (λ t. rw t (finished_in_order copied (finished_copied kind (is_within from out.path) (place out.path) from paths)))
     (λ t. rw t tt)
 
 named_copies : (out : Destination) (from : List ℕ) (paths : List (List ℕ)) → AllByRecursion IsFinished paths
@@ -94,7 +95,7 @@ named_file out path None pages e = absurd (cc)
 named_file out path (Some name) pages e =
     let page : Page = record {
       input = path;
-      output = below out.path (with_extension out.extension name);
+      output = below out.path (with_extension out.naming name);
       path_in_folder = None;
       is_copy = false;
     } in
@@ -106,10 +107,11 @@ named_of : (out : Destination) (operand : Operand) (pages : List Page) → pages
 named_of out standard_input pages e = absurd (cc)
 named_of out (file path) pages e = named_file out path (file_name (place path)) pages e
 named_of out (folder from paths) pages e =
-    let read = map (page_below out from) (pages_among paths) in
+    let named = pages_among out.naming.kind paths in
+    let read = map (page_below out from) named in
     let copied = map (copy_below out from) (copies_among out from paths) in
     let same : read ++ copied ≡ pages = cc in
-    subst (Named out) same (named_append out read copied (named_folder out from (pages_among paths))
+    subst (Named out) same (named_append out read copied (named_folder out from named)
     (named_copies out from (copies_among out from paths) (finished_among out from paths)))
 
 -- what is made of something has such names
@@ -156,7 +158,7 @@ files_named out operands (Err f) made s e l = absurd (cc)
 files_named out operands (Ok pages) made s e l =
     let same = (not_refused (output_fault pages) pages made e).1 in
     let several : 1 < length pages = subst (λ ps. 1 < length ps) (sym same) l in
-    All-from_recursion (IsNamed out.extension) (written made)
+    All-from_recursion (IsNamed out.naming.extension) (written made)
     (subst (Named out) same (named_at out operands (single_input operands) pages several s))
 
 pub plan_named : (operands : List Operand) (out : Option Destination) (made : FilePlan)

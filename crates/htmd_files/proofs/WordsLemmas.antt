@@ -1,9 +1,12 @@
 -- The words of the command line, one by one.
 use Rattle.std.proofs.Common.{◌≡◌, ℕ, ◌+◌, ◌<◌, List, [], ◌∷◌, length, drop, get_or, refl, sym, ap, ◌∙◌, Err, Result}
 use Rattle.std.proofs.Common.{String, Global, string_bytes}
+use Rattle.std.specs.Prelude.{Bool, ◌||◌}
+use Rattle.std.specs.List.{list_any}
 use Rattle.std.proofs.lemmas.List.{drop_more}
 use Rattle.htmd_files.specs.declared.faults.WordFault.{WordFault}
 use Rattle.htmd_files.specs.declared.faults.WordFault.TheVariants.{Memory, NoValue, Twice, Links, NeedsOutput}
+use Rattle.htmd_files.specs.declared.faults.WordFault.TheVariants.{LinksStay}
 use Rattle.htmd_files.specs.Words.{Fault, Reading, take_all, take_next, finished}
 use Rattle.htmd_files.specs.WordViews.{texts_of, IsWordFault}
 
@@ -34,3 +37,12 @@ fault_of_all words r whole (NoValue word) so_far h = ends_at words r _ whole h s
 fault_of_all words r whole (Twice first second) so_far h = ends_at words r _ whole h so_far
 fault_of_all words r whole (Links word) so_far h = ends_at words r _ whole h so_far
 fault_of_all words r whole (NeedsOutput option) so_far h = ends_at words r _ whole h so_far
+fault_of_all words r whole (LinksStay option) so_far h = ends_at words r _ whole h so_far
+
+-- ---- options
+
+-- as their texts are
+pub any_text : (p : List ℕ → Bool) (options : List (String Global))
+    → list_any (λ option. p (string_bytes option)) options ≡ list_any p (texts_of options)
+any_text p [] = refl
+any_text p (option ∷ options) = ap (λ (b : Bool). p (string_bytes option) || b) (any_text p options)

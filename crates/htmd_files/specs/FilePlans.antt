@@ -4,7 +4,7 @@ use Rattle.std.specs.Prelude.{find}
 use Rattle.std.specs.Prelude.{codes, Option, Some, None, Result, Ok, Err}
 use Rattle.std.specs.Cmp.Lexicographic.{slice_cmp}
 use Rattle.std.specs.Ordering.{nat_cmp, is_lt}
-use Rattle.htmd_files.specs.Names.{is_hidden, is_page, is_unfinished, with_extension}
+use Rattle.htmd_files.specs.Names.{Kind, Naming, is_hidden, is_page, is_unfinished, with_extension}
 use Rattle.htmd_files.specs.Paths.{Place, place, is_same, is_below, is_within, file_name, below, ends_with_slash}
 
 -- what the file system has where an operand leads: nothing for standard input; a file; or a folder, and the paths of
@@ -14,12 +14,13 @@ pub data Operand : Type 0 where
   file : List ℕ → Operand
   folder : List ℕ → List (List ℕ) → Operand
 
--- what `-o` names, whether that is a folder which is there, what the names of outputs in a folder end with, and whether
--- files that are no pages are copied
+-- what `-o` names, whether that is a folder which is there, which files of a folder are pages and how outputs in one
+-- are
+-- named, and whether files that are no pages are copied
 pub record Destination : Type 0 where
   pub path : List ℕ
   pub is_folder : Bool
-  pub extension : List ℕ
+  pub naming : Naming
   pub copies : Bool
 
 -- a page, or a file that is copied: the path that is read and the one that is written, and if it was found below a
@@ -67,20 +68,21 @@ in_order [] = []
 in_order (path ∷ paths) = placed path (in_order paths)
 
 -- the pages among the files of a folder
-abbrev pub pages_among : List (List ℕ) → List (List ℕ)
-pages_among paths = in_order (filter is_page paths)
+abbrev pub pages_among : Kind → List (List ℕ) → List (List ℕ)
+pages_among kind paths = in_order (filter (is_page kind) paths)
 
 -- a file of a folder is copied: it is no page, no unfinished output, not hidden, and not below the output, if that is
 -- in the folder
-abbrev pub is_copied : Bool → Place → List ℕ → List ℕ → Bool
-is_copied holds_output out from path =
-    not (is_page path || is_unfinished path)
+abbrev pub is_copied : Kind → Bool → Place → List ℕ → List ℕ → Bool
+is_copied kind holds_output out from path =
+    not (is_page kind path || is_unfinished path)
     && not (is_hidden path || (holds_output && is_below out (place (below from path))))
 
 -- the files of a folder that are copied
 abbrev pub copies_among : Destination → List ℕ → List (List ℕ) → List (List ℕ)
 copies_among out from paths =
-    if out.copies then in_order (filter (is_copied (is_within from out.path) (place out.path) from) paths) else []
+    if out.copies
+    then in_order (filter (is_copied out.naming.kind (is_within from out.path) (place out.path) from) paths) else []
 
 -- ---- pages below a folder
 
@@ -88,7 +90,7 @@ copies_among out from paths =
 abbrev pub page_below : Destination → List ℕ → List ℕ → Page
 page_below out from path = record {
   input = below from path;
-  output = below out.path (with_extension out.extension path);
+  output = below out.path (with_extension out.naming path);
   path_in_folder = Some path;
   is_copy = false;
 }
@@ -107,7 +109,7 @@ abbrev pub named_page : Destination → List ℕ → Option (List ℕ) → Resul
 named_page out path None = Err (no_name path)
 named_page out path (Some name) = Ok (record {
   input = path;
-  output = below out.path (with_extension out.extension name);
+  output = below out.path (with_extension out.naming name);
   path_in_folder = None;
   is_copy = false;
 } ∷ [])
@@ -116,7 +118,8 @@ abbrev pub pages_of : Destination → Operand → Result (List Page) Fault
 pages_of out standard_input = Err (no_name (codes "-"))
 pages_of out (file path) = named_page out path (file_name (place path))
 pages_of out (folder from paths) =
-    Ok (map (page_below out from) (pages_among paths) ++ map (copy_below out from) (copies_among out from paths))
+    Ok (map (page_below out from) (pages_among out.naming.kind paths)
+    ++ map (copy_below out from) (copies_among out from paths))
 
 abbrev pub after : List Page → Result (List Page) Fault → Result (List Page) Fault
 after pages (Ok others) = Ok (pages ++ others)

@@ -1,5 +1,6 @@
 -- What the program does with files: names and paths, the words of the command line, and the plan.
 pub mod Names
+pub mod NameViews
 pub mod Paths
 pub mod PlaceViews
 pub mod Relative

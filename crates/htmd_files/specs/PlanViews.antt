@@ -13,6 +13,7 @@ use Rattle.htmd_files.specs.declared.planning.Destination as held_destination
 use Rattle.htmd_files.specs.declared.planning.Page as held_page
 use Rattle.htmd_files.specs.declared.planning.FilePlan as held_plan
 use Rattle.htmd_files.specs.declared.planning.FilePlan.TheVariants as held
+use Rattle.htmd_files.specs.NameViews.{naming_of}
 use Rattle.htmd_files.specs.Paths.{normal}
 use Rattle.htmd_files.specs.FilePlans as spec
 use Rattle.htmd_files.specs.WordViews.{texts_of}
@@ -26,7 +27,7 @@ abbrev pub destination_of : held_destination.Destination → spec.Destination
 destination_of out = record {
   path = out.path.now;
   is_folder = out.is_folder;
-  extension = out.extension.now;
+  naming = naming_of out.naming;
   copies = out.copies;
 }
 

@@ -49,4 +49,4 @@ IsNamed extension page =
 -- without `-o` there are no pages; if there are several, each output is named by what `-o` names
 abbrev pub AreNamed : Option Destination → List Page → Type 0
 AreNamed None pages = pages ≡ []
-AreNamed (Some out) pages = 1 < length pages → All (IsNamed out.extension) pages
+AreNamed (Some out) pages = 1 < length pages → All (IsNamed out.naming.extension) pages

@@ -8,7 +8,8 @@ use Rattle.htmd_files.specs.declared.faults.WordFault.TheVariants as fault
 use Rattle.htmd_files.specs.declared.words.Job as held_job
 use Rattle.htmd_files.specs.declared.words.Expected as held_expected
 use Rattle.htmd_files.specs.declared.words.Expected.TheVariants as expected
-use Rattle.htmd_files.specs.Words.{Job, Fault, no_value, twice, links, needs_output, Expected, any, value, operand}
+use Rattle.htmd_files.specs.Words.{Job, Fault, no_value, twice, links, needs_output, links_stay}
+use Rattle.htmd_files.specs.Words.{Expected, any, value, operand}
 
 abbrev pub text_of : Bor (List ℕ) → List ℕ
 text_of text = text.now
@@ -40,3 +41,4 @@ IsWordFault r (fault.NoValue word) = r ≡ Err (no_value word.now)
 IsWordFault r (fault.Twice first second) = r ≡ Err (twice first.now second.now)
 IsWordFault r (fault.Links word) = r ≡ Err (links word.now)
 IsWordFault r (fault.NeedsOutput option) = r ≡ Err (needs_output option.now)
+IsWordFault r (fault.LinksStay option) = r ≡ Err (links_stay option.now)

@@ -1,8 +1,9 @@
 -- The words of the command line: which concern files, which are files, and which are other options.
-use Rattle.std.specs.Prelude.{ℕ, Bool, true, false, ◌||◌, nat_eq, if◌then◌else◌, List, [], ◌∷◌, ◌++◌, length, drop}
+use Rattle.std.specs.Prelude.{ℕ, Bool, true, false, ◌||◌, ◌&&◌, nat_eq, if◌then◌else◌, List, [], ◌∷◌, ◌++◌, length}
+use Rattle.std.specs.Prelude.{drop}
 use Rattle.std.specs.Prelude.{codes}
 use Rattle.std.specs.Prelude.{Option, Some, None, is_some, Result, Ok, Err}
-use Rattle.std.specs.List.{starts_with}
+use Rattle.std.specs.List.{list_any, starts_with}
 use Rattle.std.specs.Str.{bytes_eq}
 
 -- what is asked for: the files to read, what `-o` names, `--progress`, `--quiet`, `--links=md`, `--newer`, `--copy` and
@@ -17,13 +18,15 @@ pub record Job : Type 0 where
   pub copies : Bool
   pub options : List (List ℕ)
 
--- why nothing is: the option has no value, there are two outputs, links are to lead to something else than Markdown, or
--- the option counts only for outputs, and none is named
+-- why nothing is: the option has no value, there are two outputs, links are to lead to something else than Markdown,
+-- the
+-- option counts only for outputs, and none is named, or it says where links lead, and they stay as they are
 pub data Fault : Type 0 where
   no_value : List ℕ → Fault
   twice : List ℕ → List ℕ → Fault
   links : List ℕ → Fault
   needs_output : List ℕ → Fault
+  links_stay : List ℕ → Fault
 
 -- what the next word is: an option or a file, the value of this option, or a file
 pub data Expected : Type 0 where
@@ -158,13 +161,36 @@ useless_option job =
     else if job.keeps_newer then Some (codes "--newer")
     else if job.copies then Some (codes "--copy") else None
 
-abbrev pub job_unless : Option (List ℕ) → Job → Result Job Fault
-job_unless None job = Ok job
-job_unless (Some option) job = Err (needs_output option)
+-- an option is given as this word
+abbrev pub is_given : List ℕ → Job → Bool
+is_given word job = list_any (λ option. bytes_eq option word) job.options
+
+-- the HTML of Markdown is written, in which links stay as they are
+abbrev pub keeps_links : Job → Bool
+keeps_links job = is_given (codes "--html") job && is_given (codes "--from-markdown") job
+
+-- an option that says where addresses begin
+abbrev pub is_base : List ℕ → Bool
+is_base option = starts_with nat_eq option (codes "--base=")
+
+-- an option that says where links lead
+abbrev pub link_option : Job → Option (List ℕ)
+link_option job =
+    if job.links_to_markdown then Some (codes "--links=md")
+    else if list_any is_base job.options then Some (codes "--base") else None
+
+-- such an option, where they stay
+abbrev pub idle_option : Job → Option (List ℕ)
+idle_option job = if keeps_links job then link_option job else None
+
+abbrev pub job_unless : Option (List ℕ) → Option (List ℕ) → Job → Result Job Fault
+job_unless None None job = Ok job
+job_unless None (Some option) job = Err (links_stay option)
+job_unless (Some option) idle job = Err (needs_output option)
 
 -- no option counts for nothing
 abbrev pub useful : Job → Result Job Fault
-useful job = job_unless (useless_option job) job
+useful job = job_unless (useless_option job) (idle_option job) job
 
 -- after the last word
 abbrev pub finished_as : Expected → Job → Result Job Fault

@@ -23,6 +23,9 @@ pub enum WordFault<'a> {
     /// The option counts only for outputs, and none is named.
     #[error("{option} needs -o")]
     NeedsOutput { option: &'a str },
+    /// The option says where links lead, and the HTML of Markdown is written, in which they stay as they are.
+    #[error("{option} has no effect with --html, which keeps links as they are")]
+    LinksStay { option: &'a str },
 }
 
 /// Why operands and a listing of them are no plan.

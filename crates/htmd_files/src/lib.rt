@@ -9,7 +9,7 @@ mod planning;
 mod words;
 
 pub use faults::{PlanFault, WordFault};
-pub use names::{UNFINISHED, is_page, with_extension};
+pub use names::{Naming, PageKind, UNFINISHED, is_page, with_extension};
 pub use places::{normal_path, relative};
 pub use planning::{Destination, FilePlan, Operand, Page, plan_of};
 pub use words::{Job, job_of};

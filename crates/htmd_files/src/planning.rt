@@ -3,6 +3,7 @@ ghost use Rattle.std.specs.Prelude.{◌≡◌, [], ◌∷◌, ◌++◌, false, m
 ghost use Rattle.std.specs.Prelude.{string_bytes};
 ghost use Rattle.std.specs.Prelude.{filter, option_copied, option_map};
 ghost use Rattle.htmd_files.specs.Names as names;
+ghost use Rattle.htmd_files.specs.NameViews.{kind_of};
 ghost use Rattle.htmd_files.specs.Paths as paths;
 ghost use Rattle.htmd_files.specs.FilePlans as spec;
 ghost use Rattle.htmd_files.specs.PlaceViews.{place_in, texts};
@@ -12,7 +13,7 @@ ghost use Rattle.htmd_files.specs.Promises.{AreApart, KeepInputs, AreBelow, AreN
 ghost use Rattle.htmd_files.specs.WordViews.{texts_of};
 
 use crate::faults::PlanFault;
-use crate::names::{is_hidden, is_page, is_unfinished, with_extension};
+use crate::names::{Naming, PageKind, is_hidden, is_page, is_unfinished, with_extension};
 use crate::places::{Place, is_within, normal_path, place_of};
 use std::alloc::{AllocError, Global};
 use std::collections::BTreeMap;
@@ -34,8 +35,8 @@ pub struct Destination<'a> {
     pub path: &'a str,
     /// It is a folder which is there.
     pub is_folder: bool,
-    /// What the names of outputs in a folder end with, without the full stop.
-    pub extension: &'a str,
+    /// Which files of a folder are pages, and how outputs in a folder are named.
+    pub naming: Naming<'a>,
     /// Files of a folder that are no pages are copied.
     pub copies: bool,
 }
@@ -113,12 +114,17 @@ fn joined(alloc: Global, folder: &str, path: &str) -> Result<String, AllocError>
 }
 
 /// The paths that are those of pages.
-fn only_pages<'a>(alloc: Global, files: &'a [String]) -> Result<Vec<&'a str>, AllocError>
-    ensures { IfOk result (λ paths. texts paths.items ≡ filter names.is_page (texts_of files.now)) }
+fn only_pages<'a>(
+    alloc: Global,
+    kind: PageKind,
+    files: &'a [String],
+) -> Result<Vec<&'a str>, AllocError>
+    ensures { IfOk result (λ paths.
+        texts paths.items ≡ filter (names.is_page (kind_of kind)) (texts_of files.now)) }
 {
     let mut paths = Vec::new(alloc);
     for file in files {
-        if is_page(file.as_str()) {
+        if is_page(kind, file.as_str()) {
             paths.push(file.as_str())?;
         }
     }
@@ -126,10 +132,14 @@ fn only_pages<'a>(alloc: Global, files: &'a [String]) -> Result<Vec<&'a str>, Al
 }
 
 /// The pages among the files of a folder, in the order of their bytes.
-fn pages_among<'a>(alloc: Global, files: &'a [String]) -> Result<Vec<&'a str>, AllocError>
-    ensures { IfOk result (λ paths. texts paths.items ≡ spec.pages_among (texts_of files.now)) }
+fn pages_among<'a>(
+    alloc: Global,
+    kind: PageKind,
+    files: &'a [String],
+) -> Result<Vec<&'a str>, AllocError>
+    ensures { IfOk result (λ paths. texts paths.items ≡ spec.pages_among (kind_of kind) (texts_of files.now)) }
 {
-    let mut paths = only_pages(alloc, files)?;
+    let mut paths = only_pages(alloc, kind, files)?;
     paths.sort()?;
     Ok(paths)
 }
@@ -138,14 +148,16 @@ fn pages_among<'a>(alloc: Global, files: &'a [String]) -> Result<Vec<&'a str>, A
 /// that is in the folder.
 fn is_copied(
     alloc: Global,
+    kind: PageKind,
     holds_output: bool,
     output: &Place<'_>,
     folder: &str,
     path: &str,
 ) -> Result<bool, AllocError>
-    ensures { IfOk result (λ is. is ≡ spec.is_copied holds_output (place_in output.now) folder.now path.now) }
+    ensures { IfOk result (λ is.
+        is ≡ spec.is_copied (kind_of kind) holds_output (place_in output.now) folder.now path.now) }
 {
-    if is_page(path) || is_unfinished(path) || is_hidden(path) {
+    if is_page(kind, path) || is_unfinished(path) || is_hidden(path) {
         return Ok(false);
     }
     if !holds_output {
@@ -159,18 +171,20 @@ fn is_copied(
 /// The paths of a folder that are copied.
 fn only_copies<'a>(
     alloc: Global,
+    kind: PageKind,
     folder: &str,
     files: &'a [String],
     out: &str,
 ) -> Result<Vec<&'a str>, AllocError>
     ensures { IfOk result (λ copied. texts copied.items ≡ filter
-        (spec.is_copied (paths.is_within folder.now out.now) (paths.place out.now) folder.now) (texts_of files.now)) }
+        (spec.is_copied (kind_of kind) (paths.is_within folder.now out.now) (paths.place out.now) folder.now)
+        (texts_of files.now)) }
 {
     let holds_output = is_within(alloc, folder, out)?;
     let output = place_of(alloc, out)?;
     let mut copied = Vec::new(alloc);
     for file in files {
-        if is_copied(alloc, holds_output, &output, folder, file.as_str())? {
+        if is_copied(alloc, kind, holds_output, &output, folder, file.as_str())? {
             copied.push(file.as_str())?;
         }
     }
@@ -190,7 +204,7 @@ fn copies_among<'a>(
     if !out.copies {
         return Ok(Vec::new(alloc));
     }
-    let mut copied = only_copies(alloc, folder, files, out.path)?;
+    let mut copied = only_copies(alloc, out.naming.kind, folder, files, out.path)?;
     copied.sort()?;
     Ok(copied)
 }
@@ -223,7 +237,7 @@ fn page_below(
     ensures { IfOk result (λ page.
         page_of page ≡ spec.page_below (destination_of out.entry) folder.now path.now) }
 {
-    let name = with_extension(alloc, path, out.extension)?;
+    let name = with_extension(alloc, out.naming, path)?;
     Ok(Page {
         input: joined(alloc, folder, path)?,
         output: joined(alloc, out.path, name.as_str())?,
@@ -280,7 +294,7 @@ fn push_folder(
         (spec.pages_of (destination_of out.entry) (spec.folder folder.now (texts_of files.now)))
         ≡ Ok (pages_of pages.new.items)) }
 {
-    let paths = pages_among(alloc, files)?;
+    let paths = pages_among(alloc, out.naming.kind, files)?;
     push_paths(alloc, pages, folder, paths.as_slice(), out)?;
     let copied = copies_among(alloc, folder, files, out)?;
     push_copies(alloc, pages, folder, copied.as_slice(), out)
@@ -296,7 +310,7 @@ fn named_page(
     ensures { IfOk result (λ page.
         spec.named_page (destination_of out.entry) path.now (Some name.now) ≡ Ok (page_of page ∷ [])) }
 {
-    let name = with_extension(alloc, name, out.extension)?;
+    let name = with_extension(alloc, out.naming, name)?;
     Ok(Page {
         input: String::from_str(alloc, path)?,
         output: joined(alloc, out.path, name.as_str())?,

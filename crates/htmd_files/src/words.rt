@@ -1,6 +1,8 @@
 //! The words of the command line: what concerns files, and the other options.
 ghost use Rattle.std.specs.Prelude.{◌≡◌, IfOk, IfErr, OnOk, Some, Ok, string_bytes};
+ghost use Rattle.std.specs.List.{list_any};
 ghost use Rattle.std.specs.Option.{option_copied};
+ghost use Rattle.std.specs.Str.{bytes_eq};
 ghost use Rattle.htmd_files.specs.Words as spec;
 ghost use Rattle.htmd_files.specs.WordViews.{job_in, expected_in, texts_of, IsWordFault};
 
@@ -229,6 +231,37 @@ impl<'a> Job<'a> {
         }
     }
 
+    /// Whether the HTML of Markdown is written, in which links stay as they are.
+    fn keeps_links(&self) -> bool
+        ensures { result ≡ spec.keeps_links (job_in self.now) }
+    {
+        is_given(&self.options, "--html") && is_given(&self.options, "--from-markdown")
+    }
+
+    /// An option that says where links lead.
+    fn link_option(&self) -> Option<&'static str>
+        ensures { option_copied result ≡ spec.link_option (job_in self.now) }
+    {
+        if self.links_to_markdown {
+            Some("--links=md")
+        } else if has_base(&self.options) {
+            Some("--base")
+        } else {
+            None
+        }
+    }
+
+    /// Such an option, where they stay.
+    fn idle_option(&self) -> Option<&'static str>
+        ensures { option_copied result ≡ spec.idle_option (job_in self.now) }
+    {
+        if self.keeps_links() {
+            self.link_option()
+        } else {
+            None
+        }
+    }
+
     /// After the last word: `-` after `-o` is standard output, and if an output is named and nothing to read, standard
     /// input is read.
     fn complete(&mut self) -> Result<(), WordFault<'a>>
@@ -249,6 +282,27 @@ impl<'a> Job<'a> {
     }
 }
 
+/// Whether this is one of the options.
+fn is_given(options: &[String], word: &str) -> bool
+    ensures { result ≡ list_any (λ option. bytes_eq option word.now) (texts_of options.now) }
+{
+    options.iter().any(|option| option.as_str() == word)
+}
+
+/// Whether the option says where addresses begin.
+fn is_base(option: &str) -> bool
+    ensures { result ≡ spec.is_base option.now }
+{
+    option.starts_with("--base=")
+}
+
+/// Whether one of the options does.
+fn has_base(options: &[String]) -> bool
+    ensures { result ≡ list_any spec.is_base (texts_of options.now) }
+{
+    options.iter().any(|option| is_base(option.as_str()))
+}
+
 /// What the words of the command line ask for: the files to read, where to write, and the other options. A word that
 /// begins with `-` is an option, but `-` alone is standard input, and after `--` each word is a file. The empty word is
 /// passed on with the options.
@@ -265,8 +319,11 @@ pub fn job_of<'a>(alloc: Global, words: &'a [String]) -> Result<Job<'a>, WordFau
         return Err(WordFault::NoValue { word: option });
     }
     job.complete()?;
-    match job.useless_option() {
-        Some(option) => Err(WordFault::NeedsOutput { option }),
+    if let Some(option) = job.useless_option() {
+        return Err(WordFault::NeedsOutput { option });
+    }
+    match job.idle_option() {
+        Some(option) => Err(WordFault::LinksStay { option }),
         None => Ok(job),
     }
 }

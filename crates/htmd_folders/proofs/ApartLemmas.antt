@@ -87,10 +87,10 @@ none_apart [] e = tt
 none_apart (page ∷ more) e = absurd (cc)
 
 -- what a plan keeps makes its pages apart
-pub are_apart : (out : Destination) (pages : List Page) → AreFinished out.extension
+pub are_apart : (out : Destination) (pages : List Page) → AreFinished out.naming.extension
     → HaveOwnOutputs (pages_of pages) → KeepInputs (pages_of pages) → AreNamed (Some out) (pages_of pages)
     → AreApart pages
 are_apart out [] finished own kept named = tt
 are_apart out (page ∷ []) finished own kept named = (tt, tt)
 are_apart out (page ∷ second ∷ more) finished own kept named =
-    named_apart out.extension (page ∷ second ∷ more) finished own kept (named (omega arith))
+    named_apart out.naming.extension (page ∷ second ∷ more) finished own kept (named (omega arith))

@@ -7,6 +7,7 @@ use Rattle.htmd_files.specs.declared.planning.FilePlan.{FilePlan}
 use Rattle.htmd_files.specs.declared.planning.FilePlan.TheVariants as held
 use Rattle.htmd_files.specs.declared.planning.Operand.{Operand}
 use Rattle.htmd_files.specs.FilePlans as plans
+use Rattle.htmd_files.specs.Names.{Naming}
 use Rattle.htmd_files.specs.PlanViews.{operand_of, plan_in, IsRefusal}
 use Rattle.htmd_files.specs.Promises.{KeepInputs, AreNamed, pages_in}
 use Rattle.htmd_files.specs.Promises as promise
@@ -20,17 +21,17 @@ use Rattle.htmd_folders.proofs.OperandsLemmas.{still_known}
 
 -- ---- the pages of a plan
 
-pub plan_apart : (asked : Job) (extension : List ℕ) (is_folder : Bool) (output : Option (List ℕ))
+pub plan_apart : (asked : Job) (naming : Naming) (is_folder : Bool) (output : Option (List ℕ))
     (planned : FilePlan)
-    → AreFinished extension → promise.AreApart (pages_in (plan_in planned))
+    → AreFinished naming.extension → promise.AreApart (pages_in (plan_in planned))
     → KeepInputs (pages_in (plan_in planned))
-    → AreNamed (option_map (destination asked extension is_folder) output) (pages_in (plan_in planned))
+    → AreNamed (option_map (destination asked naming is_folder) output) (pages_in (plan_in planned))
     → HasPagesApart planned
-plan_apart asked extension is_folder output (held.StandardOutput input) finished outputs inputs names = tt
-plan_apart asked extension is_folder None (held.Files pages) finished outputs inputs names =
+plan_apart asked naming is_folder output (held.StandardOutput input) finished outputs inputs names = tt
+plan_apart asked naming is_folder None (held.Files pages) finished outputs inputs names =
     none_apart pages.items names
-plan_apart asked extension is_folder (Some path) (held.Files pages) finished outputs inputs names =
-    are_apart (destination asked extension is_folder path) pages.items finished outputs inputs names
+plan_apart asked naming is_folder (Some path) (held.Files pages) finished outputs inputs names =
+    are_apart (destination asked naming is_folder path) pages.items finished outputs inputs names
 
 -- ---- why there is no plan
 
@@ -40,29 +41,29 @@ fault_is (Err g) f e =
     let same : g ≡ f = cc in
     ap Err same
 
-given_fault : (before : Option (List Change)) (asked : Job) (extension : List ℕ) (missed : List (List ℕ))
-    (r : Result plans.FilePlan plans.Fault) (f : plans.Fault) → IsPlanOf before asked extension missed r
+given_fault : (before : Option (List Change)) (asked : Job) (naming : Naming) (missed : List (List ℕ))
+    (r : Result plans.FilePlan plans.Fault) (f : plans.Fault) → IsPlanOf before asked naming missed r
     → plans.fault_in r ≡ Some f
-    → (missed : List (List ℕ)) × (reason : plans.Fault) × IsPlanOf before asked extension missed (Err reason)
-given_fault before asked extension missed r f is e =
-    (missed, f, subst (IsPlanOf before asked extension missed) (fault_is r f e) is)
+    → (missed : List (List ℕ)) × (reason : plans.Fault) × IsPlanOf before asked naming missed (Err reason)
+given_fault before asked naming missed r f is e =
+    (missed, f, subst (IsPlanOf before asked naming missed) (fault_is r f e) is)
 
-pub no_plan : (before : Option (List Change)) (asked : Job) (extension : List ℕ) (missed : List (List ℕ))
-    (r : Result plans.FilePlan plans.Fault) (refused : PlanFault) → IsPlanOf before asked extension missed r
-    → IsRefusal (plans.fault_in r) refused → IsNoPlan before asked extension refused
-no_plan before asked extension missed r fault.Memory is e = tt
-no_plan before asked extension missed r (fault.Several first second) is e =
-    given_fault before asked extension missed r _ is e
-no_plan before asked extension missed r (fault.Folder folder) is e =
-    given_fault before asked extension missed r _ is e
-no_plan before asked extension missed r (fault.NoName input) is e =
-    given_fault before asked extension missed r _ is e
-no_plan before asked extension missed r (fault.Outside input output folder) is e =
-    given_fault before asked extension missed r _ is e
-no_plan before asked extension missed r (fault.Shared first second output) is e =
-    given_fault before asked extension missed r _ is e
-no_plan before asked extension missed r (fault.Overwritten input output) is e =
-    given_fault before asked extension missed r _ is e
+pub no_plan : (before : Option (List Change)) (asked : Job) (naming : Naming) (missed : List (List ℕ))
+    (r : Result plans.FilePlan plans.Fault) (refused : PlanFault) → IsPlanOf before asked naming missed r
+    → IsRefusal (plans.fault_in r) refused → IsNoPlan before asked naming refused
+no_plan before asked naming missed r fault.Memory is e = tt
+no_plan before asked naming missed r (fault.Several first second) is e =
+    given_fault before asked naming missed r _ is e
+no_plan before asked naming missed r (fault.Folder folder) is e =
+    given_fault before asked naming missed r _ is e
+no_plan before asked naming missed r (fault.NoName input) is e =
+    given_fault before asked naming missed r _ is e
+no_plan before asked naming missed r (fault.Outside input output folder) is e =
+    given_fault before asked naming missed r _ is e
+no_plan before asked naming missed r (fault.Shared first second output) is e =
+    given_fault before asked naming missed r _ is e
+no_plan before asked naming missed r (fault.Overwritten input output) is e =
+    given_fault before asked naming missed r _ is e
 
 -- ---- what was found
 
@@ -74,17 +75,18 @@ pub lists_if : (output : Option (Bor (List ℕ))) (lists : Bool) → lists ≡ i
     → lists ≡ is_some (option_map text_of output)
 lists_if output lists e = e ∙ some_mapped text_of output
 
-pub plan_found : (before between : Option (List Change)) (asked : Job) (extension : List ℕ) (lists : Bool)
+pub plan_found : (before between : Option (List Change)) (asked : Job) (naming : Naming) (lists : Bool)
     (names : List (List ℕ)) (found given : List Operand) (missed : List (List ℕ)) (to : Option plans.Destination)
     (r : Result plans.FilePlan plans.Fault) → Makes before between [] → given ≡ found → names ≡ asked.operands
     → lists ≡ is_some asked.output → map plans.path_of (map operand_of found) ≡ names
-    → IfSome before (λ past. LeadTo past lists names (map operand_of found) missed)
-    → HasPlace between asked extension to → plans.plan (map operand_of given) to ≡ r
-    → IsPlanOf before asked extension missed r
-plan_found before between asked extension lists names found given missed to r m g n l paths leads place is =
-    let L : Bool → Type 0 = λ b. IfSome before (λ past. LeadTo past b names (map operand_of found) missed) in
+    → IfSome before (λ past. LeadTo past naming.kind lists names (map operand_of found) missed)
+    → HasPlace between asked naming to → plans.plan (map operand_of given) to ≡ r
+    → IsPlanOf before asked naming missed r
+plan_found before between asked naming lists names found given missed to r m g n l paths leads place is =
+    let L : Bool → Type 0 = λ b. IfSome before
+    (λ past. LeadTo past naming.kind b names (map operand_of found) missed) in
     let N : List (List ℕ) → Type 0 =
-    λ x. IfSome before (λ past. LeadTo past (is_some asked.output) x (map operand_of found) missed) in
+    λ x. IfSome before (λ past. LeadTo past naming.kind (is_some asked.output) x (map operand_of found) missed) in
     record {
       operands = map operand_of found;
       is_folder = place.0;

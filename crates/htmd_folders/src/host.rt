@@ -3,6 +3,7 @@ use crate::faults::StoreFault;
 use crate::listing::Listing;
 use crate::store::Store;
 use crate::walk::list_below;
+use htmd_files::PageKind;
 use htmd_streams::{Input, Output};
 use std::alloc::Global;
 use std::collections::BTreeSet;
@@ -162,8 +163,14 @@ impl<R: Files + std::io::Input> Store for HostStore<'_, R> {
         file.is_file() && written_at(&file) > written_at(&other)
     }
 
-    fn list(&mut self, alloc: Global, folder: &str, all: bool) -> Result<Listing, StoreFault> {
-        match list_below(alloc, self.runtime, folder, all) {
+    fn list(
+        &mut self,
+        alloc: Global,
+        folder: &str,
+        kind: PageKind,
+        all: bool,
+    ) -> Result<Listing, StoreFault> {
+        match list_below(alloc, self.runtime, folder, kind, all) {
             Ok(listing) => Ok(listing),
             Err(error) => Err(fault_of(&error)),
         }

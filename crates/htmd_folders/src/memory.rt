@@ -11,6 +11,7 @@ use crate::faults::StoreFault;
 use crate::listing::Listing;
 use crate::store::Store;
 use crate::streams::MemoryWriter;
+use htmd_files::PageKind;
 use htmd_streams::Input;
 use std::alloc::{AllocError, Global};
 use std::io::{Cursor, ErrorKind};
@@ -212,7 +213,13 @@ impl Store for MemoryStore {
         false
     }
 
-    fn list(&mut self, alloc: Global, folder: &str, _all: bool) -> Result<Listing, StoreFault> {
+    fn list(
+        &mut self,
+        alloc: Global,
+        folder: &str,
+        _kind: PageKind,
+        _all: bool,
+    ) -> Result<Listing, StoreFault> {
         let Ok(files) = self.files_below(alloc, folder) else {
             return Err(StoreFault::Failed(ErrorKind::OutOfMemory));
         };

@@ -3,6 +3,7 @@ ghost use Rattle.std.specs.Prelude.{◌≡◌, ◌↔◌, ◌++◌, ◌∷◌, [
 ghost use Rattle.std.specs.List.{list_any};
 ghost use Rattle.htmd_files.specs.FilePlans.{path_of};
 ghost use Rattle.htmd_files.specs.Names.{is_page as is_page_name};
+ghost use Rattle.htmd_files.specs.NameViews.{kind_of};
 ghost use Rattle.htmd_files.specs.PlanViews.{operand_of};
 ghost use Rattle.htmd_files.specs.WordViews.{text_of, texts_of};
 ghost use Rattle.htmd_folders.specs.Changes.{Makes};
@@ -13,7 +14,7 @@ ghost use Rattle.htmd_folders.specs.PlanViews.{missed_in, Finds, FindsFiles};
 use crate::faults::StoreFault;
 use crate::listing::{Listing, Unread};
 use crate::store::Store;
-use htmd_files::{Operand, is_page};
+use htmd_files::{Operand, PageKind, is_page};
 use std::alloc::{AllocError, Global};
 use std::fmt;
 use std::io::ErrorKind;
@@ -37,15 +38,20 @@ pub struct Missed {
 pub enum Cause {
     /// It can't be read.
     Unread(StoreFault),
-    /// It is a folder without a page.
-    NoPage,
+    /// It is a folder without a page of this kind.
+    NoPage(PageKind),
 }
 
 impl fmt::Display for Cause {
     fn fmt<W: fmt::Write>(&self, f: &mut fmt::Formatter<W>) -> fmt::Result {
         match self {
             Cause::Unread(fault) => write!(f, "{fault}"),
-            Cause::NoPage => f.write_str("no file below it ends in .html, .htm or .xhtml"),
+            Cause::NoPage(PageKind::Html) => {
+                f.write_str("no file below it ends in .html, .htm or .xhtml")
+            }
+            Cause::NoPage(PageKind::Markdown) => {
+                f.write_str("no file below it ends in .md or .markdown")
+            }
         }
     }
 }
@@ -56,19 +62,21 @@ pub(crate) fn find_operands<S: Store>(
     alloc: Global,
     store: &mut S,
     names: &[&str],
+    kind: PageKind,
     lists: bool,
     copies: bool,
 ) -> Result<Found, AllocError>
     ensures names { IfOk result (λ found. map path_of (map operand_of found.operands.items)
         ≡ map text_of names.now) }
-    ensures found { IfOk result (λ found. IfSome (S.changes store.old) (λ past. LeadTo past lists
+    ensures found { IfOk result (λ found. IfSome (S.changes store.old) (λ past. LeadTo past (kind_of kind) lists
         (map text_of names.now) (map operand_of found.operands.items) (missed_in found.missed.items))) }
     ensures same { Makes (S.changes store.old) (S.changes store.new) [] }
 {
     let mut operands = Vec::new(alloc);
     let mut missed = Vec::new(alloc);
     for name in names {
-        operands.push(find_operand(alloc, store, name, lists, copies, &mut missed)?)?;
+        let operand = find_operand(alloc, store, name, kind, lists, copies, &mut missed)?;
+        operands.push(operand)?;
     }
     Ok(Found { operands, missed })
 }
@@ -78,12 +86,13 @@ fn find_operand<S: Store>(
     alloc: Global,
     store: &mut S,
     name: &str,
+    kind: PageKind,
     lists: bool,
     copies: bool,
     missed: &mut Vec<Missed>,
 ) -> Result<Operand, AllocError>
     ensures name { IfOk result (λ operand. path_of (operand_of operand) ≡ name.now) }
-    ensures found { IfOk result (λ operand. Finds (S.changes store.old) lists name.now operand
+    ensures found { IfOk result (λ operand. Finds (S.changes store.old) (kind_of kind) lists name.now operand
         (missed_in missed.old.items) (missed_in missed.new.items)) }
     ensures same { Makes (S.changes store.old) (S.changes store.new) [] }
 {
@@ -91,7 +100,7 @@ fn find_operand<S: Store>(
         return Ok(Operand::StandardInput);
     }
     if is_folder(store, name) {
-        let files = files_of(alloc, store, name, lists, copies, missed)?;
+        let files = files_of(alloc, store, name, kind, lists, copies, missed)?;
         let path = String::from_str(alloc, name)?;
         return Ok(Operand::Folder { path, files });
     }
@@ -104,11 +113,12 @@ fn files_of<S: Store>(
     alloc: Global,
     store: &mut S,
     name: &str,
+    kind: PageKind,
     lists: bool,
     copies: bool,
     missed: &mut Vec<Missed>,
 ) -> Result<Vec<String>, AllocError>
-    ensures files { IfOk result (λ files. lists ≡ true → FindsFiles (S.changes store.old) name.now
+    ensures files { IfOk result (λ files. lists ≡ true → FindsFiles (S.changes store.old) (kind_of kind) name.now
         (texts_of files.items) (missed_in missed.old.items) (missed_in missed.new.items)) }
     ensures unlisted { OnOk result (lists ≡ false → missed.new.items ≡ missed.old.items) }
     ensures same { Makes (S.changes store.old) (S.changes store.new) [] }
@@ -116,7 +126,7 @@ fn files_of<S: Store>(
     if !lists {
         return Ok(Vec::new(alloc));
     }
-    files_below(alloc, store, name, copies, missed)
+    files_below(alloc, store, name, kind, copies, missed)
 }
 
 /// Whether a folder is under a name. What can't be looked at is none.
@@ -132,15 +142,16 @@ fn files_below<S: Store>(
     alloc: Global,
     store: &mut S,
     name: &str,
+    kind: PageKind,
     copies: bool,
     missed: &mut Vec<Missed>,
 ) -> Result<Vec<String>, AllocError>
-    ensures files { IfOk result (λ files. FindsFiles (S.changes store.old) name.now (texts_of files.items)
-        (missed_in missed.old.items) (missed_in missed.new.items)) }
+    ensures files { IfOk result (λ files. FindsFiles (S.changes store.old) (kind_of kind) name.now
+        (texts_of files.items) (missed_in missed.old.items) (missed_in missed.new.items)) }
     ensures same { Makes (S.changes store.old) (S.changes store.new) [] }
 {
-    match store.list(alloc, name, copies) {
-        Ok(listing) => take_listing(alloc, name, listing, missed),
+    match store.list(alloc, name, kind, copies) {
+        Ok(listing) => take_listing(alloc, name, kind, listing, missed),
         Err(StoreFault::Failed(ErrorKind::OutOfMemory)) => Err(AllocError),
         Err(fault) => {
             push_missed(alloc, missed, name, Cause::Unread(fault))?;
@@ -153,27 +164,28 @@ fn files_below<S: Store>(
 fn take_listing(
     alloc: Global,
     name: &str,
+    kind: PageKind,
     listing: Listing,
     missed: &mut Vec<Missed>,
 ) -> Result<Vec<String>, AllocError>
     ensures files { IfOk result (λ files. files.items ≡ listing.files.items) }
     ensures missed { OnOk result (listing.unread.items ≡ [] → missed_in missed.new.items
-        ≡ missed_in missed.old.items ++ missed_folder name.now (texts_of listing.files.items)) }
+        ≡ missed_in missed.old.items ++ missed_folder (kind_of kind) name.now (texts_of listing.files.items)) }
 {
     let Listing { files, unread } = listing;
     if !unread.is_empty() {
         push_unread(alloc, missed, name, unread)?;
-    } else if !holds_page(&files) {
-        push_missed(alloc, missed, name, Cause::NoPage)?;
+    } else if !holds_page(kind, &files) {
+        push_missed(alloc, missed, name, Cause::NoPage(kind))?;
     }
     Ok(files)
 }
 
-fn holds_page(files: &[String]) -> bool
-    ensures { result ≡ list_any is_page_name (texts_of files.now) }
+fn holds_page(kind: PageKind, files: &[String]) -> bool
+    ensures { result ≡ list_any (is_page_name (kind_of kind)) (texts_of files.now) }
 {
     for file in files {
-        if is_page(file.as_str()) {
+        if is_page(kind, file.as_str()) {
             return true;
         }
     }

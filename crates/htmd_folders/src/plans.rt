@@ -1,5 +1,6 @@
 //! The plan of a job, for what a store has.
 ghost use Rattle.std.specs.Prelude.{◌≡◌, [], IfOk, IfErr, Ok, option_map};
+ghost use Rattle.htmd_files.specs.NameViews.{naming_of};
 ghost use Rattle.htmd_files.specs.PlanViews.{destination_of, plan_in};
 ghost use Rattle.htmd_files.specs.WordViews.{job_in};
 ghost use Rattle.htmd_folders.specs.Changes.{Makes};
@@ -8,31 +9,32 @@ ghost use Rattle.htmd_folders.specs.Plans.{AreFinished, IsPlanOf};
 
 use crate::operands::{Found, Missed, find_operands, is_folder};
 use crate::store::Store;
-use htmd_files::{Destination, FilePlan, Job, PlanFault, plan_of};
+use htmd_files::{Destination, FilePlan, Job, Naming, PlanFault, plan_of};
 use std::alloc::Global;
 
-/// The plan of a job for what a store has where its names lead, and of what nothing is converted. The names of outputs
-/// in a folder have this extension. Nothing is changed.
+/// The plan of a job for what a store has where its names lead, and of what nothing is converted. Pages and outputs in
+/// a folder are named so. Nothing is changed.
 pub fn find_plan<S: Store>(
     alloc: Global,
     store: &mut S,
     job: &Job<'_>,
-    extension: &str,
+    naming: Naming<'_>,
 ) -> Result<(FilePlan, Vec<Missed>), PlanFault>
-    ensures ok { IfOk result (λ found. IsPlanOf (S.changes store.old) (job_in job.now) extension.now
+    ensures ok { IfOk result (λ found. IsPlanOf (S.changes store.old) (job_in job.now) (naming_of naming.entry)
         (missed_in found.1.items) (Ok (plan_in found.0))) }
-    ensures apart { IfOk result (λ found. AreFinished extension.now → HasPagesApart found.0) }
-    ensures err { IfErr result (IsNoPlan (S.changes store.old) (job_in job.now) extension.now) }
+    ensures apart { IfOk result (λ found. AreFinished (naming_of naming.entry).extension → HasPagesApart found.0) }
+    ensures err { IfErr result (IsNoPlan (S.changes store.old) (job_in job.now) (naming_of naming.entry)) }
     ensures same { Makes (S.changes store.old) (S.changes store.new) [] }
 {
     let Found { operands, missed } = find_operands(
         alloc,
         store,
         &job.operands,
+        naming.kind,
         job.output.is_some(),
         job.copies,
     )?;
-    let destination = find_destination(store, job, extension);
+    let destination = find_destination(store, job, naming);
     match plan_of(alloc, &operands, destination) {
         Ok(plan) => Ok((plan, missed)),
         Err(fault) => Err(fault),
@@ -43,9 +45,9 @@ pub fn find_plan<S: Store>(
 fn find_destination<'a, S: Store>(
     store: &mut S,
     job: &Job<'a>,
-    extension: &'a str,
+    naming: Naming<'a>,
 ) -> Option<Destination<'a>>
-    ensures place { HasPlace (S.changes store.old) (job_in job.now) extension.now
+    ensures place { HasPlace (S.changes store.old) (job_in job.now) (naming_of naming.entry)
         (option_map destination_of result) }
     ensures same { Makes (S.changes store.old) (S.changes store.new) [] }
 {
@@ -53,7 +55,7 @@ fn find_destination<'a, S: Store>(
         Some(path) => Some(Destination {
             path,
             is_folder: is_folder(store, path),
-            extension,
+            naming,
             copies: job.copies,
         }),
         None => None,

@@ -7,6 +7,7 @@ ghost use Rattle.htmd_folders.specs.Listings.{is_file, Lists, TellsFolder};
 
 use crate::faults::StoreFault;
 use crate::listing::Listing;
+use htmd_files::PageKind;
 use htmd_streams::{Sink, Source};
 use std::alloc::Global;
 use std::io::ErrorKind;
@@ -73,8 +74,14 @@ pub trait Store {
         ensures same { Makes (changes self.old) (changes self.new) [] };
 
     /// All files below a folder. Links to folders are not followed. A name that isn't UTF-8 is told with `all`, and
-    /// else if it may be that of a page or of a folder.
-    fn list(&mut self, alloc: Global, folder: &str, all: bool) -> Result<Listing, StoreFault>
+    /// else if it may be that of a page of this kind or of a folder.
+    fn list(
+        &mut self,
+        alloc: Global,
+        folder: &str,
+        kind: PageKind,
+        all: bool,
+    ) -> Result<Listing, StoreFault>
         ensures files { IfOk result (λ listing.
             Lists (changes self.old) folder.now (texts_of listing.files.items)) }
         ensures readable { IfOk result (λ listing.

@@ -1,6 +1,7 @@
 //! What is below a folder of the operating system.
 use crate::faults::StoreFault;
 use crate::listing::{Listing, Unread};
+use htmd_files::PageKind;
 use std::alloc::{AllocError, Global};
 use std::io::{ErrorKind, Read};
 use std::rt::Files;
@@ -9,22 +10,27 @@ use std::{fs, io};
 /// How many bytes of the names of a folder are read at once.
 const BUFFER_SIZE: usize = 32768;
 
-/// The endings of pages' names.
-const ENDINGS: [&[u8]; 3] = [b".html", b".htm", b".xhtml"];
+/// The endings of the names of pages that are HTML.
+const HTML_ENDINGS: &[&[u8]] = &[b".html", b".htm", b".xhtml"];
+
+/// Those of pages that are Markdown.
+const MARKDOWN_ENDINGS: &[&[u8]] = &[b".md", b".markdown"];
 
 /// All files below a folder, by their paths from it on. Links to folders are not followed, and links to files count as
-/// files. A name that isn't UTF-8 is told with `all`, and else if it may be that of a page or of a folder. `Err` means
-/// that the folder itself can't be read, or out of memory.
+/// files. A name that isn't UTF-8 is told with `all`, and else if it may be that of a page of this kind or of a folder.
+/// `Err` means that the folder itself can't be read, or out of memory.
 pub(crate) fn list_below<R: Files>(
     alloc: Global,
     files: &R,
     folder: &str,
+    kind: PageKind,
     all: bool,
 ) -> io::Result<Listing> {
     let mut walk = Walk {
         alloc,
         files,
         folder,
+        kind,
         all,
         open: Vec::new(alloc),
         listing: Listing {
@@ -48,6 +54,7 @@ struct Walk<'a, 'b, R> {
     alloc: Global,
     files: &'a R,
     folder: &'b str,
+    kind: PageKind,
     all: bool,
     // The folders that are still to be read, by their paths from the given one on.
     open: Vec<String>,
@@ -109,7 +116,7 @@ impl<R: Files> Walk<'_, '_, R> {
 
     // The same for a name that isn't UTF-8.
     fn add_unreadable(&mut self, below: &str, name: &[u8]) -> Result<(), AllocError> {
-        if !self.all && !may_be_page(name) {
+        if !self.all && !may_be_page(self.kind, name) {
             return Ok(());
         }
         let shown = String::from_utf8_lossy(self.alloc, name)?;
@@ -151,8 +158,15 @@ fn kind_of<R: Files>(files: &R, path: &str) -> Kind {
 }
 
 // A name that ends as a page's does, or one without an ending, which may be a folder's.
-fn may_be_page(name: &[u8]) -> bool {
-    !name.contains(&b'.') || ENDINGS.iter().any(|ending| ends_with(name, ending))
+fn may_be_page(kind: PageKind, name: &[u8]) -> bool {
+    !name.contains(&b'.') || endings(kind).iter().any(|ending| ends_with(name, ending))
+}
+
+fn endings(kind: PageKind) -> &'static [&'static [u8]] {
+    match kind {
+        PageKind::Html => HTML_ENDINGS,
+        PageKind::Markdown => MARKDOWN_ENDINGS,
+    }
 }
 
 // In any case of ASCII letters.

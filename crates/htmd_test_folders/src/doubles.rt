@@ -2,7 +2,7 @@
 ghost use Rattle.std.specs.Prelude.{◌≡◌, ◌++◌, OnOk, ⊤};
 ghost use Rattle.std.specs.Io.KnownBytes.{Appends};
 
-use htmd_files::Page;
+use htmd_files::{Page, PageKind};
 use htmd_folders::{
     Conversion, Lines, Listing, MemoryStore, MemoryWriter, Progress, RunOptions, ShownName, Store,
     StoreFault,
@@ -180,8 +180,14 @@ impl Store for FailingStore {
         self.inner.is_newer(path, other)
     }
 
-    fn list(&mut self, alloc: Global, folder: &str, all: bool) -> Result<Listing, StoreFault> {
-        self.inner.list(alloc, folder, all)
+    fn list(
+        &mut self,
+        alloc: Global,
+        folder: &str,
+        kind: PageKind,
+        all: bool,
+    ) -> Result<Listing, StoreFault> {
+        self.inner.list(alloc, folder, kind, all)
     }
 }
 

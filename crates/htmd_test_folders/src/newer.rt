@@ -1,6 +1,6 @@
 //! With newer outputs kept, a page is left alone only if its output was written later.
 use super::doubles::Twice;
-use htmd_files::Page;
+use htmd_files::{Page, PageKind};
 use htmd_folders::{
     Listing, MemoryStore, MemoryWriter, Progress, RunOptions, Store, StoreFault, Tally, run_pages,
 };
@@ -77,8 +77,14 @@ impl Store for DatedStore {
         }
     }
 
-    fn list(&mut self, alloc: Global, folder: &str, all: bool) -> Result<Listing, StoreFault> {
-        self.inner.list(alloc, folder, all)
+    fn list(
+        &mut self,
+        alloc: Global,
+        folder: &str,
+        kind: PageKind,
+        all: bool,
+    ) -> Result<Listing, StoreFault> {
+        self.inner.list(alloc, folder, kind, all)
     }
 }
 

@@ -1,7 +1,7 @@
 //! What concerns files: the words of the command line, a small plan, paths, and what the faults write.
 use htmd_files::{
-    Destination, FilePlan, Operand, PlanFault, is_page, job_of, normal_path, plan_of, relative,
-    with_extension,
+    Destination, FilePlan, Naming, Operand, PageKind, PlanFault, is_page, job_of, normal_path,
+    plan_of, relative, with_extension,
 };
 use htmd_test_expected::{expect_text, expect_that};
 use std::alloc::{AllocError, Global};
@@ -52,6 +52,15 @@ const WORD_FAULTS: &[(&str, &str)] = &[
     ("--links=md a", "--links=md needs -o"),
     ("--newer", "--newer needs -o"),
     ("a --copy -o-", "--copy needs -o"),
+    (
+        "--from-markdown --html --links=md -o out a",
+        "--links=md has no effect with --html, which keeps links as they are",
+    ),
+    (
+        "--base=https://a/ --html --from-markdown",
+        "--base has no effect with --html, which keeps links as they are",
+    ),
+    ("--from-markdown --html --links=text a", "none"),
     ("a", "none"),
 ];
 
@@ -113,9 +122,17 @@ fn planned(
 const OUT: Option<Destination<'static>> = Some(Destination {
     path: "out",
     is_folder: false,
-    extension: "md",
+    naming: Naming {
+        kind: PageKind::Html,
+        extension: "md",
+    },
     copies: false,
 });
+
+const OF_MARKDOWN: Naming<'static> = Naming {
+    kind: PageKind::Markdown,
+    extension: "html",
+};
 
 #[test]
 fn pages_are_planned(rt: HostRuntime) -> Result<(), Fail> {
@@ -128,6 +145,26 @@ fn pages_are_planned(rt: HostRuntime) -> Result<(), Fail> {
         lines.as_str(),
         "site/a/c.HTM > out/a/c.md at a/c.HTM\nsite/b.html > out/b.md at b.html\n\
         site/é.xhtml > out/é.md at é.xhtml\nx/y.txt > out/y.txt.md\n",
+    )
+}
+
+#[test]
+fn pages_of_markdown_are_planned(rt: HostRuntime) -> Result<(), Fail> {
+    let mut operands = Vec::new(rt.alloc());
+    operands.push(folder(rt.alloc(), "site", "b.md a/c.Markdown d.html")?)?;
+    operands.push(file(rt.alloc(), "x/e.MD")?)?;
+    let out = Destination {
+        path: "out",
+        is_folder: true,
+        naming: OF_MARKDOWN,
+        copies: true,
+    };
+    let lines = planned(rt.alloc(), operands.as_slice(), Some(out))?;
+    expect_text(
+        "plan",
+        lines.as_str(),
+        "site/a/c.Markdown > out/a/c.html at a/c.Markdown\nsite/b.md > out/b.html at b.md\n\
+        site/d.html > out/d.html at d.html\nx/e.MD > out/e.html\n",
     )
 }
 
@@ -195,12 +232,29 @@ fn faults_of_folders_name_them(rt: HostRuntime) -> Result<(), Fail> {
 fn paths_are_compared_and_related(rt: HostRuntime) -> Result<(), Fail> {
     let path = normal_path(rt.alloc(), "/a//b/./../c")?;
     expect_text("normal", path.as_str(), "/a/c")?;
-    let name = with_extension(rt.alloc(), "a.XHTML", "md")?;
-    expect_text("name", name.as_str(), "a.md")?;
-    expect_that("page", is_page("a.htm") && !is_page("a.htm.txt"))?;
     let way = relative(rt.alloc(), "a/b/c.md", "a/d.md")?;
     expect_that(
         "way",
         way.as_ref().map(|path| path.as_str()) == Some("../d.md"),
+    )
+}
+
+#[test]
+fn pages_are_known_by_their_names(rt: HostRuntime) -> Result<(), Fail> {
+    let of_html = Naming {
+        kind: PageKind::Html,
+        extension: "md",
+    };
+    let name = with_extension(rt.alloc(), of_html, "a.XHTML")?;
+    expect_text("name", name.as_str(), "a.md")?;
+    let name = with_extension(rt.alloc(), OF_MARKDOWN, "a.MARKDOWN")?;
+    expect_text("name of Markdown", name.as_str(), "a.html")?;
+    expect_that(
+        "page",
+        is_page(PageKind::Html, "a.htm") && !is_page(PageKind::Html, "a.htm.txt"),
+    )?;
+    expect_that(
+        "page of Markdown",
+        is_page(PageKind::Markdown, "a.md") && !is_page(PageKind::Markdown, "a.htm"),
     )
 }
