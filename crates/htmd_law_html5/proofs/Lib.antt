@@ -100,6 +100,8 @@ pub mod StrictNodes
 pub mod StrictOpen
 pub mod StrictLaid
 pub mod StrictNames
+pub mod StrictModes
+pub mod StrictTables
 pub mod StrictSets
 pub mod StrictRules
 pub mod StrictEnds

@@ -1,8 +1,8 @@
 -- The tokens of plain trees build the nodes of these trees below the current node.
-use Rattle.std.proofs.Common.{◌≡◌, ℕ, ◌<◌, Bool, true, false, not, List, [], ◌∷◌, ◌++◌, length, Option, Some, None}
-use Rattle.std.proofs.Common.{refl, sym, ap, ◌∙◌, arith, inl, inr, subst, length-append, codes}
+use Rattle.std.proofs.Common.{◌≡◌, ℕ, ◌<◌, Bool, true, false, not, ◌||◌, List, [], ◌∷◌, ◌++◌, length, Option, Some}
+use Rattle.std.proofs.Common.{None, refl, sym, ap, ◌∙◌, arith, inl, inr, subst, length-append, codes}
 use Rattle.std.specs.List.{list_all}
-use Rattle.std.proofs.lemmas.Bool.{and_parts}
+use Rattle.std.proofs.lemmas.Bool.{and_parts, not-true, true≢false}
 use Rattle.std.proofs.lemmas.List.{append-nil}
 use Rattle.htmd_lexical.specs.WhiteSpace.{is_ascii_white_space}
 use Rattle.htmd_lexical.proofs.Cases.{test}
@@ -11,35 +11,52 @@ use Rattle.htmd_values.specs.ValueTrees.{ValueTree, ValueForest, none, more, tex
 use Rattle.htmd_values.specs.ValueTrees.{comment, element}
 use Rattle.htmd_lexical.specs.CharacterClasses.{is_among}
 use Rattle.htmd_grammar.specs.Grammar.{Apart}
+use Rattle.htmd_grammar.specs.Nesting.{parent_name, holds_rows, holds_parts, fits_table}
 use Rattle.htmd_values.specs.Serialisation.{is_void}
 use Rattle.htmd_html5_tokens.specs.Tokens.{TokenValue, start_tag, end_tag}
 use Rattle.htmd_lexical.specs.declared.content_model.ContentModel.TheVariants.{Normal}
+use Rattle.htmd_html5.specs.Texts.{is_table_mode}
+use Rattle.htmd_html5_state.specs.Formatting.{after_marker}
+use Rattle.htmd_html5_state.specs.Resetting.{mode_of}
+use Rattle.htmd_html5_state.specs.Sets.{is_of}
+use Rattle.htmd_html5_state.specs.declared.modes.InsertionMode.{InsertionMode}
+use Rattle.htmd_html5_state.specs.declared.modes.InsertionMode.TheVariants.{InTable, InTableBody, InRow, InCell}
+use Rattle.htmd_html5_state.specs.declared.sets.NameSet.TheVariants.{Fostering}
 use Rattle.htmd_html5_state.specs.Names.{html, name_of_text}
 use Rattle.htmd_html5_state.specs.Nodes.{NodeValue, kind_at, append_children, add, add_text, last_in}
 use Rattle.htmd_html5_state.specs.OpenElements.{OpenValue}
-use Rattle.htmd_html5_state.specs.Insertion.{current, place}
+use Rattle.htmd_html5_state.specs.Insertion.{current, opened, place}
 use Rattle.htmd_html5_state.specs.State.{StateValue}
 use Rattle.htmd_html5.specs.AtOnce.{is_without_null}
 use Rattle.htmd_html5.specs.Feeding.{feed}
-use Rattle.htmd_law_html5.specs.StrictTokens.{content_after, tag_named, SpellsTree, SpellsForest, after_feed}
+use Rattle.htmd_law_html5.specs.StrictTokens.{content_in, content_after, tag_named, SpellsTree, SpellsForest}
+use Rattle.htmd_law_html5.specs.StrictTokens.{after_feed}
 use Rattle.htmd_law_html5.specs.StrictTokens.{content_tokens}
-use Rattle.htmd_law_html5.specs.StrictTrees.{is_plain_name, is_plain_element, is_plain_tree, are_plain, text_names}
+use Rattle.htmd_law_html5.specs.StrictTrees.{is_plain_name, is_plain_element, is_plain_body, is_plain_tree, are_plain}
+use Rattle.htmd_law_html5.specs.StrictTrees.{text_names}
 use Rattle.htmd_law_html5.proofs.StrictNodes.{node, tree_nodes, append_length, added, last_text, text_added}
 use Rattle.htmd_law_html5.proofs.StrictNodes.{kind_after, kinds_kept, with_tree, with_forest, forest_joined, filled}
 use Rattle.htmd_law_html5.proofs.StrictNodes.{tree_last, is_text, begins_text, no_text_next, with_tree_longer}
 use Rattle.htmd_law_html5.proofs.StrictNodes.{append_none}
-use Rattle.htmd_law_html5.proofs.StrictOpen.{Fewer, fewer_same, fewer_trans, entries, Stands, stands_longer}
-use Rattle.htmd_law_html5.proofs.StrictOpen.{stands_below}
+use Rattle.htmd_law_html5.proofs.StrictOpen.{Fewer, fewer_same, fewer_trans, fewer_cleared, entries, Stands}
+use Rattle.htmd_law_html5.proofs.StrictOpen.{stands_longer}
+use Rattle.htmd_law_html5.proofs.StrictOpen.{the_document, stands_below}
 use Rattle.htmd_law_html5.proofs.StrictNames.{plain_case, is_formatting_case, void_case}
 use Rattle.htmd_law_html5.proofs.StrictSets.{plain_content, void_keeps, keeps_name, text_keeps}
 use Rattle.htmd_law_html5.proofs.StrictOnlyText.{at, at_end, element_added, starts_empty, IsOneText, Put, none_put}
 use Rattle.htmd_law_html5.proofs.StrictOnlyText.{text_put}
 use Rattle.htmd_law_html5.proofs.StrictThrough.{Through, nothing, followed, from_state, one_fed, skip_run}
-use Rattle.htmd_grammar.proofs.NestingLemmas.{one_name}
+use Rattle.htmd_grammar.proofs.NestingLemmas.{one_name, among_passes}
 use Rattle.htmd_law_html5.proofs.StrictRawTexts.{normal_content, void_content}
-use Rattle.htmd_law_html5.proofs.StrictRules.{IsInBody, Fits, within, comment_fed, text_fed, plain_start}
+use Rattle.htmd_law_html5.proofs.StrictRules.{InContext, Flows, Fits, within, comment_fed, text_fed, plain_start}
 use Rattle.htmd_law_html5.proofs.StrictRules.{formatting_start, void_fed, opened_with, pre_start}
 use Rattle.htmd_law_html5.proofs.StrictEnds.{plain_end, formatting_end, pre_end}
+use Rattle.htmd_law_html5.proofs.StrictModes.{IsFlow, ModeIn, in_table, in_section, in_row, in_flow, flow_fits}
+use Rattle.htmd_law_html5.proofs.StrictModes.{table_fits, section_fits, row_fits, section_names, cell_names}
+use Rattle.htmd_law_html5.proofs.StrictModes.{table_part_names, part_tags, section_plain, plain_in_flow, table_alone}
+use Rattle.htmd_law_html5.proofs.StrictModes.{flows, flows_hold, plain_flows, reset_past}
+use Rattle.htmd_law_html5.proofs.StrictTables.{white_fed, opened_as, table_start, section_start, row_start, cell_start}
+use Rattle.htmd_law_html5.proofs.StrictTables.{table_end, section_end, row_end, cell_end, cell_resets}
 use Rattle.htmd_html5_tokens.specs.Tokens as tokens
 use Rattle.htmd_html5_state.specs.Nodes as documents
 
@@ -47,7 +64,9 @@ use Rattle.htmd_html5_state.specs.Nodes as documents
 
 abbrev mutual
   pub FitsTree : List (List ℕ) → ValueTree → Type 0
-  FitsTree c (text u) = is_without_null u ≡ true
+  FitsTree c (text u) =
+      (is_without_null u ≡ true)
+      × (holds_parts (parent_name (c ++ the_document)) ≡ true → list_all is_ascii_white_space u ≡ true)
   FitsTree c (element n attributes children) =
       Fits c n × FitsForest (n ∷ c) children × (is_among text_names n ≡ true → IsOneText children)
   FitsTree c _ = Unit {0}
@@ -63,19 +82,20 @@ module _ (z : Bool) where
     where
       pub through : Through z s xs new
       pub nodes_are : new.nodes ≡ nodes
-      pub in_body : IsInBody c new
+      pub in_context : InContext c new
       pub stack : new.stack ≡ s.stack
+      pub mode : new.mode ≡ s.mode
       pub fewer : Fewer new.formatting s.formatting
 
   abbrev TreeBuilt : ValueTree → Type 0
   TreeBuilt t = (p : List ℕ) (c : List (List ℕ)) (xs : List TokenValue) (s : StateValue) → SpellsTree t xs
-      → is_plain_tree t ≡ true → FitsTree (p ∷ c) t → IsInBody (p ∷ c) s
+      → is_plain_tree t ≡ true → FitsTree (p ∷ c) t → InContext (p ∷ c) s
       → (is_text t ≡ true → last_text s.nodes (at s) ≡ None)
       → (new : StateValue) × Built (p ∷ c) xs (with_tree (at s) t s.nodes) s new
 
   abbrev ForestBuilt : ValueForest → Type 0
   ForestBuilt ts = (p : List ℕ) (c : List (List ℕ)) (xs : List TokenValue) (s : StateValue) → SpellsForest ts xs
-      → are_plain ts ≡ true → FitsForest (p ∷ c) ts → IsInBody (p ∷ c) s
+      → are_plain ts ≡ true → FitsForest (p ∷ c) ts → InContext (p ∷ c) s
       → (begins_text ts ≡ true → last_text s.nodes (at s) ≡ None)
       → (new : StateValue) × Built (p ∷ c) xs (with_forest (at s) ts s.nodes) s new
 
@@ -91,10 +111,11 @@ module _ (z : Bool) where
 
   -- with these nodes in place of those before
   grown : (p : List ℕ) (c : List (List ℕ)) (t : ValueTree) (s : StateValue) (nodes : List NodeValue) (ok : Bool)
-      → IsInBody (p ∷ c) s → nodes ≡ with_tree (at s) t s.nodes
-      → IsInBody (p ∷ c) (record s { nodes = nodes; frameset_ok = ok })
+      → InContext (p ∷ c) s → nodes ≡ with_tree (at s) t s.nodes
+      → InContext (p ∷ c) (record s { nodes = nodes; frameset_ok = ok })
   grown p c t s nodes ok h e = record {
     mode = h.mode;
+    resets = h.resets;
     content = h.content;
     no_skip = h.no_skip;
     no_foster = h.no_foster;
@@ -107,21 +128,22 @@ module _ (z : Bool) where
   }
 
   put_built : (p : List ℕ) (c : List (List ℕ)) (t : ValueTree) (s : StateValue) (xs : List TokenValue)
-      → IsInBody (p ∷ c) s → Put z s t xs
+      → InContext (p ∷ c) s → Put z s t xs
       → (new : StateValue) × Built (p ∷ c) xs (with_tree (at s) t s.nodes) s new
   put_built p c t s xs h r = (
     record s { nodes = r.nodes; frameset_ok = r.ok },
     record {
       through = r.through;
       nodes_are = r.nodes_are;
-      in_body = grown p c t s r.nodes r.ok h r.nodes_are;
+      in_context = grown p c t s r.nodes r.ok h r.nodes_are;
       stack = refl;
+      mode = refl;
       fewer = fewer_same s.formatting;
     },
   )
 
   leaf_built : (p : List ℕ) (c : List (List ℕ)) (t : ValueTree) (x : TokenValue) (s : StateValue)
-      (nodes : List NodeValue) (ok : Bool) → IsInBody (p ∷ c) s → content_after z Normal x ≡ Normal
+      (nodes : List NodeValue) (ok : Bool) → InContext (p ∷ c) s → content_after z Normal x ≡ Normal
       → feed x s ≡ record s { nodes = nodes; frameset_ok = ok } → nodes ≡ with_tree (at s) t s.nodes
       → (new : StateValue) × Built (p ∷ c) (x ∷ []) (with_tree (at s) t s.nodes) s new
   leaf_built p c t x s nodes ok h k f e =
@@ -133,14 +155,34 @@ module _ (z : Bool) where
       })
 
   text_built : (u : List ℕ) → TreeBuilt (text u)
-  text_built u p c xs s k e f h st =
-      let nodes : add_text u (place s) s.nodes ≡ with_tree (at s) (text u) s.nodes =
-      ap (λ there. add_text u there s.nodes) (at_end p c s h) ∙ text_added u (at s) s.nodes (within p c s h)
-      (st refl) in
-      let fed = text_fed p c s h u f in
-      rw k (test (list_all is_ascii_white_space u)
-      (λ t. leaf_built p c (text u) (tokens.text u) s _ s.frameset_ok h refl (fed ∙ rw t refl) nodes)
-      (λ t. leaf_built p c (text u) (tokens.text u) s _ false h refl (fed ∙ rw t refl) nodes))
+  text_built u p c xs s k e f h st = rw k (by_case h.mode)
+    where
+      nodes : add_text u (place s) s.nodes ≡ with_tree (at s) (text u) s.nodes
+      nodes =
+          ap (λ there. add_text u there s.nodes) (at_end p c s h)
+          ∙ text_added u (at s) s.nodes (within p c s h) (st refl)
+
+      in_body : Flows p s → (new : StateValue) × Built (p ∷ c) (tokens.text u ∷ []) (with_tree (at s) (text u) s.nodes)
+          s new
+      in_body w =
+          let fed = text_fed p c s h w u f.0 in
+          test (list_all is_ascii_white_space u)
+          (λ t. leaf_built p c (text u) (tokens.text u) s _ s.frameset_ok h refl (fed ∙ rw t refl) nodes)
+          (λ t. leaf_built p c (text u) (tokens.text u) s _ false h refl (fed ∙ rw t refl) nodes)
+
+      in_parts : is_table_mode s.mode ≡ true → is_of Fostering (html (name_of_text p)) ≡ true → holds_parts p ≡ true
+          → (new : StateValue) × Built (p ∷ c) (tokens.text u ∷ []) (with_tree (at s) (text u) s.nodes) s new
+      in_parts m b o =
+          leaf_built p c (text u) (tokens.text u) s _ s.frameset_ok h refl (white_fed p c s h m b u f.0 (f.1 o)) nodes
+
+      by_case : ModeIn p s.mode
+          → (new : StateValue) × Built (p ∷ c) (tokens.text u ∷ []) (with_tree (at s) (text u) s.nodes) s new
+      by_case (in_table q m) = in_parts (rw m refl) (rw q refl) (rw q refl)
+      by_case (in_section q m) = in_parts (rw m refl)
+          (among_passes (λ n. is_of Fostering (html (name_of_text n))) section_names p q refl)
+          (among_passes holds_parts section_names p q refl)
+      by_case (in_row q m) = in_parts (rw m refl) (rw q refl) (rw q refl)
+      by_case (in_flow o w) = in_body (o, w)
 
   comment_built : (u : List ℕ) → TreeBuilt (comment u)
   comment_built u p c xs s k e f h st =
@@ -149,22 +191,27 @@ module _ (z : Bool) where
 
   void_built : (n : List ℕ) (attributes : List AttributePair) (slash : Bool) (p : List ℕ) (c : List (List ℕ))
       (s : StateValue) → is_void n ≡ true → not (is_among (codes "col" ∷ []) n) ≡ true → Fits (p ∷ c) n
-      → IsInBody (p ∷ c) s
+      → InContext (p ∷ c) s → Flows p s
       → (new : StateValue) × Built (p ∷ c) (start_tag (tag_named n attributes slash) ∷ [])
       (with_tree (at s) (element n attributes none) s.nodes) s new
-  void_built n attributes slash p c s v e f h =
-      let fed = void_fed p c s h n (void_case n v e f.inside) f attributes slash in
+  void_built n attributes slash p c s v e f h w =
+      let fed = void_fed p c s h w n (void_case n v e f.inside) f attributes slash in
       leaf_built p c (element n attributes none) (start_tag (tag_named n attributes slash)) s
       (add (documents.element (html (name_of_text n)) attributes) (place s) s.nodes) fed.0 h
       (normal_content z n (void_content z n v) f.inside) fed.1 (element_added p c n attributes s h)
 
   -- ---- an element with content
 
+  abbrev fresh : List ℕ → StateValue → OpenValue
+  fresh n s = opened (length s.nodes) (html (name_of_text n))
+
   -- the state in which the content comes
   entered : (p n : List ℕ) (c : List (List ℕ)) (attributes : List AttributePair) (s : StateValue)
-      (list : List (Option ℕ)) (ok : Bool) (h : IsInBody (p ∷ c) s) → Fewer list
-      (Some (length s.nodes) ∷ s.formatting) → IsInBody (n ∷ (p ∷ c)) (opened_with p c s h n attributes list ok)
-  entered p n c attributes s list ok h f =
+      (list : List (Option ℕ)) (ok : Bool) (m : InsertionMode) (h : InContext (p ∷ c) s) → ModeIn n m
+      → (holds_parts n ≡ false → (y : StateValue) → mode_of (fresh n s ∷ s.stack) y ≡ m)
+      → Fewer list (Some (length s.nodes) ∷ None ∷ s.formatting)
+      → InContext (n ∷ (p ∷ c)) (opened_as p c s h n attributes list ok m)
+  entered p n c attributes s list ok m h i r f =
       let kind = documents.element (html (name_of_text n)) attributes in
       let front : List NodeValue = append_children (at s) (length s.nodes ∷ []) s.nodes in
       let new : NodeValue = node kind (at s) [] in
@@ -173,13 +220,14 @@ module _ (z : Bool) where
       let l : length s.nodes < length (front ++ new ∷ []) = omega (arith, long, length-append front (new ∷ [])) in
       let g = grown p c (element n attributes none) s (add kind (place s) s.nodes) ok h added_ in
       record {
-        mode = h.mode;
+        mode = i;
+        resets = r;
         content = h.content;
         no_skip = h.no_skip;
         no_foster = h.no_foster;
         no_template = h.no_template;
-        listed = fewer_trans list (Some (length s.nodes) ∷ s.formatting) (Some (length s.nodes) ∷ entries s.stack) f
-            (inr (s.formatting, refl, h.listed));
+        listed = fewer_trans list (Some (length s.nodes) ∷ None ∷ s.formatting) (entries (fresh n s ∷ s.stack)) f
+            (inr (None ∷ s.formatting, refl, inr (s.formatting, refl, h.listed)));
         stands = (
           refl,
           (
@@ -195,143 +243,304 @@ module _ (z : Bool) where
   -- the content between a start tag and an end tag that do this, after which no more is listed than before
   held_built : (p n : List ℕ) (c : List (List ℕ)) (attributes : List AttributePair) (children : ValueForest)
       → ForestBuilt children → (slash : Bool) (whole content : List TokenValue) (s : StateValue)
-      (list : List (Option ℕ)) (ok : Bool) (h : IsInBody (p ∷ c) s) → SpellsForest children content
-      → are_plain children ≡ true → FitsForest (n ∷ (p ∷ c)) children → Fewer list
-      (Some (length s.nodes) ∷ s.formatting) → (feed (start_tag (tag_named n attributes slash)) s).content
+      (list : List (Option ℕ)) (ok : Bool) (m : InsertionMode) (h : InContext (p ∷ c) s)
+      → SpellsForest children content → are_plain children ≡ true → FitsForest (n ∷ (p ∷ c)) children
+      → InContext (n ∷ (p ∷ c)) (opened_as p c s h n attributes list ok m)
+      → (feed (start_tag (tag_named n attributes slash)) s).content
       ≡ content_after z Normal (start_tag (tag_named n attributes slash))
-      → ((held : StateValue) → held.stack ≡ (opened_with p c s h n attributes list ok).stack
-      → IsInBody (n ∷ (p ∷ c)) held → Fewer held.formatting list
+      → ((held : StateValue) → held.stack ≡ fresh n s ∷ s.stack → held.mode ≡ m
+      → InContext (n ∷ (p ∷ c)) held → Fewer held.formatting list
       → (left : List (Option ℕ)) × Fewer left s.formatting
-      × (feed (end_tag (tag_named n [] false)) held ≡ record held { stack = s.stack; formatting = left }))
-      → ((new : StateValue) → Through z (opened_with p c s h n attributes list ok)
+      × (feed (end_tag (tag_named n [] false)) held
+      ≡ record held { stack = s.stack; formatting = left; mode = s.mode }))
+      → ((new : StateValue) → Through z (opened_as p c s h n attributes list ok m)
       (content ++ (end_tag (tag_named n [] false) ∷ [])) new
       → Through z (feed (start_tag (tag_named n attributes slash)) s)
       (whole ++ (end_tag (tag_named n [] false) ∷ [])) new)
       → ElementBuilt p c n attributes slash whole children s
-  held_built p n c attributes children ih slash whole content s list ok h k g ff f e ends run =
-      let first : StateValue = opened_with p c s h n attributes list ok in
-      let r = ih n (p ∷ c) content first k g ff (entered p n c attributes s list ok h f)
-      (λ _. starts_empty p n c attributes s h) in
+  held_built p n c attributes children ih slash whole content s list ok m h k g ff i e ends run =
+      let first : StateValue = opened_as p c s h n attributes list ok m in
+      let r = ih n (p ∷ c) content first k g ff i (λ _. starts_empty p n c attributes s h) in
       let b = r.1 in
-      let last = ends r.0 b.stack b.in_body b.fewer in
-      let new : StateValue = record (r.0) { stack = s.stack; formatting = last.0 } in
-      let st = subst (λ stack. Stands (r.0).nodes (n ∷ (p ∷ c)) stack) b.stack b.in_body.stands in
+      let last = ends r.0 b.stack b.mode b.in_context b.fewer in
+      let new : StateValue = record (r.0) { stack = s.stack; formatting = last.0; mode = s.mode } in
+      let st = subst (λ stack. Stands (r.0).nodes (n ∷ (p ∷ c)) stack) b.stack b.in_context.stands in
       let through : Through z first (content ++ (end_tag (tag_named n [] false) ∷ [])) new =
-      followed z b.through (one_fed z n (p ∷ c) (end_tag (tag_named n [] false)) r.0 new [] new b.in_body
-      b.in_body.content last.2 nothing) in (
+      followed z b.through (one_fed z n (p ∷ c) (end_tag (tag_named n [] false)) r.0 new [] new b.in_context
+      b.in_context.content last.2 nothing) in (
         new,
         record {
           through = one_fed z p c (start_tag (tag_named n attributes slash)) s _ _ new h e refl (run new through);
           nodes_are = b.nodes_are ∙ ap (with_forest (length s.nodes) children) (element_added p c n attributes s h)
               ∙ filled (at s) n attributes children s.nodes;
-          in_body = record {
-            mode = b.in_body.mode;
-            content = b.in_body.content;
-            no_skip = b.in_body.no_skip;
-            no_foster = b.in_body.no_foster;
-            no_template = b.in_body.no_template;
+          in_context = record {
+            mode = h.mode;
+            resets = h.resets;
+            content = b.in_context.content;
+            no_skip = b.in_context.no_skip;
+            no_foster = b.in_context.no_foster;
+            no_template = b.in_context.no_template;
             listed = fewer_trans last.0 s.formatting (entries s.stack) last.1 h.listed;
             stands = st.4;
           };
           stack = refl;
+          mode = refl;
           fewer = last.1;
         },
       )
 
+  -- ---- an element whose content is read as the body is
+
+  flow_entered : (p n : List ℕ) (c : List (List ℕ)) (attributes : List AttributePair) (s : StateValue)
+      (list : List (Option ℕ)) (ok : Bool) (h : InContext (p ∷ c) s) → Flows p s → flows n ≡ true
+      → Fewer list (Some (length s.nodes) ∷ None ∷ s.formatting)
+      → InContext (n ∷ (p ∷ c)) (opened_with p c s h n attributes list ok)
+  flow_entered p n c attributes s list ok h w o f =
+      entered p n c attributes s list ok s.mode h (in_flow (flows_hold n o) w.1)
+      (λ e y. rw (reset_past n o s.stack y) (h.resets w.0 y)) f
+
+  -- a mode that is the same
+  moded : (held : StateValue) (stack : List OpenValue) (left : List (Option ℕ)) {i m : InsertionMode} → i ≡ m
+      → record held { stack = stack; formatting = left; mode = i }
+      ≡ record held { stack = stack; formatting = left; mode = m }
+  moded held stack left e =
+      ap (λ (i : InsertionMode). record held { stack = stack; formatting = left; mode = i }) e
+
+  flows_in : (p : List ℕ) (s held : StateValue) → Flows p s → held.mode ≡ s.mode → IsFlow held.mode
+  flows_in p s held w e = subst IsFlow (sym e) w.1
+
   full_built : (n : List ℕ) (attributes : List AttributePair) (children : ValueForest) → ForestBuilt children
       → (slash : Bool) (content : List TokenValue) (p : List ℕ) (c : List (List ℕ)) (s : StateValue)
       → is_plain_name n ≡ true → are_plain children ≡ true → SpellsForest children content
-      → Fits (p ∷ c) n → FitsForest (n ∷ (p ∷ c)) children → IsInBody (p ∷ c) s
+      → Fits (p ∷ c) n → FitsForest (n ∷ (p ∷ c)) children → InContext (p ∷ c) s → Flows p s
       → ElementBuilt p c n attributes slash content children s
-  full_built n attributes children ih slash content p c s e g k f ff h =
+  full_built n attributes children ih slash content p c s e g k f ff h w =
       test (is_formatting_case (plain_case n e)) formatted unformatted
     where
       formatted : is_formatting_case (plain_case n e) ≡ true
           → ElementBuilt p c n attributes slash content children s
       formatted t =
-          let started = formatting_start p c s h n (plain_case n e) f t attributes slash in
+          let started = formatting_start p c s h w n (plain_case n e) f t attributes slash in
           held_built p n c attributes children ih slash content content s (Some (length s.nodes) ∷ started.0)
-          s.frameset_ok h k g ff (inr (started.0, refl, started.1))
+          s.frameset_ok s.mode h k g ff
+          (flow_entered p n c attributes s _ s.frameset_ok h w (plain_flows n e)
+          (inr (started.0, refl, inl started.1)))
           (ap (λ (y : StateValue). y.content) started.2 ∙ h.content ∙ sym (plain_content z n e))
-          (λ held stack there fewer. let st = subst (Stands held.nodes (n ∷ (p ∷ c))) stack there.stands in
-          let ends = formatting_end n (p ∷ c) held there n (plain_case n e) t (length s.nodes) s.stack (st.1).0
-          started.0 stack (st.1).1 st.3 fewer
-          (fewer_trans started.0 s.formatting (entries s.stack) started.1 h.listed) in
-          (ends.0, fewer_trans ends.0 started.0 s.formatting ends.1 started.1, ends.2))
+          (λ held stack mode there fewer.
+          let st = subst (Stands held.nodes (n ∷ (p ∷ c))) stack there.stands in
+          let ends = formatting_end n (p ∷ c) held there (flows_in p s held w mode) n (plain_flows n e) (plain_case n e)
+          t (length s.nodes) s.stack (st.1).0 started.0 stack (st.1).1 st.3 fewer
+          (fewer_trans started.0 s.formatting (entries s.stack) started.1 h.listed) in (
+            ends.0,
+            fewer_trans ends.0 started.0 s.formatting ends.1 started.1,
+            ends.2 ∙ moded held s.stack ends.0 mode,
+          ))
           (λ new run. from_state z started.2 run)
 
       unformatted : is_formatting_case (plain_case n e) ≡ false
           → ElementBuilt p c n attributes slash content children s
       unformatted t =
-          let started = plain_start p c s h n (plain_case n e) f t attributes slash in
-          held_built p n c attributes children ih slash content content s s.formatting started.0 h k g ff
-          (inl (fewer_same s.formatting))
+          let started = plain_start p c s h w n (plain_case n e) f t attributes slash in
+          held_built p n c attributes children ih slash content content s s.formatting started.0 s.mode h k g ff
+          (flow_entered p n c attributes s _ started.0 h w (plain_flows n e) (inl (inl (fewer_same s.formatting))))
           (ap (λ (y : StateValue). y.content) started.1 ∙ h.content ∙ sym (plain_content z n e))
-          (λ held stack there fewer.
-          let ends = plain_end n (p ∷ c) held there n (plain_case n e) t (length s.nodes) s.stack stack in
-          (held.formatting, fewer, ends))
+          (λ held stack mode there fewer.
+          let ends = plain_end n (p ∷ c) held there (flows_in p s held w mode) n (plain_flows n e) (plain_case n e) t
+          (length s.nodes) s.stack stack in
+          (held.formatting, fewer, ends ∙ moded held s.stack held.formatting mode))
           (λ new run. from_state z started.1 run)
 
   pre_built : (attributes : List AttributePair) (children : ValueForest) → ForestBuilt children
       → (slash : Bool) (content : List TokenValue) (p : List ℕ) (c : List (List ℕ)) (s : StateValue)
       → are_plain children ≡ true → SpellsForest children (after_feed content)
-      → Fits (p ∷ c) (codes "pre") → FitsForest (codes "pre" ∷ (p ∷ c)) children → IsInBody (p ∷ c) s
-      → ElementBuilt p c (codes "pre") attributes slash content children s
-  pre_built attributes children ih slash content p c s g k f ff h =
+      → Fits (p ∷ c) (codes "pre") → FitsForest (codes "pre" ∷ (p ∷ c)) children → InContext (p ∷ c) s
+      → Flows p s → ElementBuilt p c (codes "pre") attributes slash content children s
+  pre_built attributes children ih slash content p c s g k f ff h w =
       let n : List ℕ = codes "pre" in
-      let started = pre_start p c s h f attributes slash in
-      let few : Fewer s.formatting (Some (length s.nodes) ∷ s.formatting) = inl (fewer_same s.formatting) in
-      held_built p n c attributes children ih slash content (after_feed content) s s.formatting false h k g ff few
-      (ap (λ (y : StateValue). y.content) started ∙ h.content)
-      (λ held stack there fewer. let ends = pre_end n (p ∷ c) held there (length s.nodes) s.stack stack in
-      (held.formatting, fewer, ends))
+      let started = pre_start p c s h w f attributes slash in
+      let there =
+      flow_entered p n c attributes s s.formatting false h w refl (inl (inl (fewer_same s.formatting))) in
+      held_built p n c attributes children ih slash content (after_feed content) s s.formatting false s.mode h k g ff
+      there (ap (λ (y : StateValue). y.content) started ∙ h.content)
+      (λ held stack mode there fewer.
+      let ends = pre_end n (p ∷ c) held there (flows_in p s held w mode) (length s.nodes) s.stack stack in
+      (held.formatting, fewer, ends ∙ moded held s.stack held.formatting mode))
       (λ new run. from_state z started (skip_run z n (p ∷ c) (opened_with p c s h n attributes s.formatting false)
-      (entered p n c attributes s s.formatting false h few) content (tag_named n [] false) new run))
+      there content (tag_named n [] false) new run))
 
   -- an element that holds only text
   text_alone_built : (n : List ℕ) (attributes : List AttributePair) (children : ValueForest) (slash : Bool)
       (content : List TokenValue) (p : List ℕ) (c : List (List ℕ)) (s : StateValue)
       → is_among text_names n ≡ true → SpellsForest children content → Fits (p ∷ c) n
-      → FitsForest (n ∷ (p ∷ c)) children → IsOneText children → IsInBody (p ∷ c) s
+      → FitsForest (n ∷ (p ∷ c)) children → IsOneText children → InContext (p ∷ c) s → Flows p s
       → ElementBuilt p c n attributes slash content children s
-  text_alone_built n attributes none slash content p c s e k f ff o h =
-      rw k (put_built p c (element n attributes none) s _ h (none_put z p c s h n e f attributes slash))
-  text_alone_built n attributes (more (text u) none) slash content p c s e k f ff o h =
+  text_alone_built n attributes none slash content p c s e k f ff o h w =
+      rw k (put_built p c (element n attributes none) s _ h (none_put z p c s h w n e f attributes slash))
+  text_alone_built n attributes (more (text u) none) slash content p c s e k f ff o h w =
       let q : content ≡ tokens.text u ∷ [] =
       k.2 ∙ ap (λ (ys : List TokenValue). ys ++ k.1) k.3
       ∙ ap (λ (ys : List TokenValue). tokens.text u ∷ ys) k.4 in
       rw q (put_built p c (element n attributes (more (text u) none)) s _ h
-      (text_put z p c s h n e f attributes slash u ff.1))
-  text_alone_built n attributes _ slash content p c s e k f ff o h = absurd o
+      (text_put z p c s h w n e f attributes slash u (ff.1).0))
+  text_alone_built n attributes _ slash content p c s e k f ff o h w = absurd o
 
-  element_built : (n : List ℕ) (attributes : List AttributePair) (children : ValueForest) → ForestBuilt children
-      → TreeBuilt (element n attributes children)
-  element_built n attributes children ih p c xs s k e f h st =
-      let g = and_parts (is_plain_element n) (are_plain children) e in
-      test (is_void n)
-      (λ v. let m = rw v at k.5 in
-      let w = rw v at g.0 in
-      let held : SpellsForest children k.1 = rw (void_keeps n v) at k.4 in
-      let none_held : k.1 ≡ [] = subst (λ ts. SpellsForest ts k.1) m.0 held in
-      let q : xs ≡ start_tag (tag_named n attributes k.0) ∷ [] =
-      k.3 ∙ ap (λ (ys : List TokenValue). start_tag (tag_named n attributes k.0) ∷ (ys ++ k.2)) none_held
-      ∙ ap (λ (ys : List TokenValue). start_tag (tag_named n attributes k.0) ∷ ys) m.1 in
-      rw (q, m.0) (void_built n attributes k.0 p c s v w f.0 h))
-      (λ v. let m = rw v at k.5 in
-      let w = rw v at g.0 in
-      let q : xs ≡ start_tag (tag_named n attributes k.0) ∷ (k.1 ++ (end_tag (tag_named n [] false) ∷ [])) =
-      k.3 ∙ ap (λ (ys : List TokenValue). start_tag (tag_named n attributes k.0) ∷ (k.1 ++ ys)) m.1 in
-      rw q (test (is_plain_name n)
-      (λ t. full_built n attributes children ih k.0 k.1 p c s t g.1 (rw (keeps_name n t) at k.4) f.0 f.1 h)
-      (λ t. let x = rw t at w in
-      test (is_among (codes "pre" ∷ []) n)
-      (λ y. subst (λ m. SpellsForest children (content_tokens m k.1) → Fits (p ∷ c) m
-      → FitsForest (m ∷ (p ∷ c)) children → ElementBuilt p c m attributes k.0 k.1 children s)
-      (sym (one_name (codes "pre") n y))
-      (λ spelled there below. pre_built attributes children ih k.0 k.1 p c s g.1 spelled there below h) k.4 f.0 f.1)
-      (λ y. let there : is_among text_names n ≡ true = rw y at x in
-      let held : SpellsForest children k.1 = rw (text_keeps n there) at k.4 in
-      text_alone_built n attributes children k.0 k.1 p c s there held f.0 f.1 (f.2 there) h))))
+  -- ---- tables and their parts
+
+  part_built : (n : List ℕ) (attributes : List AttributePair) (children : ValueForest) → ForestBuilt children
+      → (slash : Bool) (content : List TokenValue) (p : List ℕ) (c : List (List ℕ)) (s : StateValue)
+      (list : List (Option ℕ)) (ok : Bool) (m : InsertionMode) → are_plain children ≡ true
+      → SpellsForest children content → FitsForest (n ∷ (p ∷ c)) children → (h : InContext (p ∷ c) s)
+      → content_in z n ≡ Normal → ModeIn n m
+      → (holds_parts n ≡ false → (y : StateValue) → mode_of (fresh n s ∷ s.stack) y ≡ m)
+      → Fewer list (Some (length s.nodes) ∷ None ∷ s.formatting)
+      → feed (start_tag (tag_named n attributes slash)) s ≡ opened_as p c s h n attributes list ok m
+      → ((held : StateValue) → held.stack ≡ fresh n s ∷ s.stack → held.mode ≡ m → InContext (n ∷ (p ∷ c)) held
+      → Fewer held.formatting list → (left : List (Option ℕ)) × Fewer left s.formatting
+      × (feed (end_tag (tag_named n [] false)) held
+      ≡ record held { stack = s.stack; formatting = left; mode = s.mode }))
+      → ElementBuilt p c n attributes slash content children s
+  part_built n attributes children ih slash content p c s list ok m g k ff h v i r f started ends =
+      held_built p n c attributes children ih slash content content s list ok m h k g ff
+      (entered p n c attributes s list ok m h i r f)
+      (ap (λ (y : StateValue). y.content) started ∙ h.content ∙ sym v) ends (λ new run. from_state z started run)
+
+  module _ (n : List ℕ) (attributes : List AttributePair) (children : ValueForest) (ih : ForestBuilt children)
+      (slash : Bool) (content : List TokenValue) (p : List ℕ) (c : List (List ℕ)) (s : StateValue)
+      (g : are_plain children ≡ true) (k : SpellsForest children content) (ff : FitsForest (n ∷ (p ∷ c)) children)
+      (h : InContext (p ∷ c) s) where
+    table_built : n ≡ codes "table" → Fits (p ∷ c) n → Flows p s
+        → ElementBuilt p c n attributes slash content children s
+    table_built q f w =
+        part_built n attributes children ih slash content p c s s.formatting false InTable g k ff h (rw q refl)
+        (in_table q refl) (λ e. absurd (let u = rw q at e in cc)) (inl (inl (fewer_same s.formatting)))
+        (subst (λ m. Fits (p ∷ c) m → feed (start_tag (tag_named m attributes slash)) s
+        ≡ opened_as p c s h m attributes s.formatting false InTable) (sym q)
+        (λ f. table_start p c s h w f attributes slash) f)
+        (λ held stack mode there fewer. (
+          held.formatting,
+          fewer,
+          table_end n (p ∷ c) held there (length s.nodes) s.stack n q s.mode stack mode (h.resets w.0),
+        ))
+
+    section_built : holds_rows n ≡ true → p ≡ codes "table" → s.mode ≡ InTable
+        → ElementBuilt p c n attributes slash content children s
+    section_built r q m =
+        part_built n attributes children ih slash content p c s s.formatting s.frameset_ok InTableBody g k ff h
+        ((part_tags n (among_passes (is_among table_part_names) section_names n r refl)).2 z) (in_section r refl)
+        (λ e. absurd (true≢false (sym (among_passes holds_parts section_names n r refl) ∙ e)))
+        (inl (inl (fewer_same s.formatting))) (section_start p c s h q m n r attributes slash)
+        (λ held stack mode there fewer. (
+          held.formatting,
+          fewer,
+          section_end n (p ∷ c) held there (length s.nodes) s.stack n r stack mode
+              ∙ moded held s.stack held.formatting (sym m),
+        ))
+
+    row_built : n ≡ codes "tr" → holds_rows p ≡ true → s.mode ≡ InTableBody
+        → ElementBuilt p c n attributes slash content children s
+    row_built q r m =
+        part_built n attributes children ih slash content p c s s.formatting s.frameset_ok InRow g k ff h (rw q refl)
+        (in_row q refl) (λ e. absurd (let u = rw q at e in cc)) (inl (inl (fewer_same s.formatting)))
+        (row_start p c s h r m n q attributes slash)
+        (λ held stack mode there fewer. (
+          held.formatting,
+          fewer,
+          row_end n (p ∷ c) held there (length s.nodes) s.stack n q stack mode
+              ∙ moded held s.stack held.formatting (sym m),
+        ))
+
+    cell_built : is_among cell_names n ≡ true → p ≡ codes "tr" → s.mode ≡ InRow
+        → ElementBuilt p c n attributes slash content children s
+    cell_built r q m =
+        part_built n attributes children ih slash content p c s (None ∷ s.formatting) s.frameset_ok InCell g k ff h
+        ((part_tags n (among_passes (is_among table_part_names) cell_names n r refl)).2 z)
+        (in_flow (not-true (holds_parts n) (among_passes (λ m. not (holds_parts m)) cell_names n r refl)) (inr refl))
+        (λ e y. cell_resets p c s h n r (length s.nodes) y) (inl (inr (s.formatting, refl, fewer_same s.formatting)))
+        (cell_start p c s h q m n r attributes slash)
+        (λ held stack mode there fewer. (
+          after_marker held.formatting,
+          fewer_cleared held.formatting s.formatting fewer,
+          cell_end n (p ∷ c) held there (length s.nodes) s.stack n r stack mode
+              ∙ moded held s.stack (after_marker held.formatting) (sym m),
+        ))
+
+  -- ---- elements
+
+  module _ (n : List ℕ) (attributes : List AttributePair) (children : ValueForest) (ih : ForestBuilt children)
+      (p : List ℕ) (c : List (List ℕ)) (xs : List TokenValue) (s : StateValue)
+      (k : SpellsTree (element n attributes children) xs)
+      (e : (is_plain_element n || is_plain_body n children) ≡ true) (g : are_plain children ≡ true)
+      (f : FitsTree (p ∷ c) (element n attributes children)) (h : InContext (p ∷ c) s) where
+    abbrev Whole : Type 0
+    Whole = (new : StateValue) × Built (p ∷ c) xs (with_tree (at s) (element n attributes children) s.nodes) s new
+
+    -- its tags stand around its content
+    with_content : is_void n ≡ false → ((slash : Bool) (content : List TokenValue)
+        → SpellsForest children (content_tokens n content) → ElementBuilt p c n attributes slash content children s)
+        → Whole
+    with_content v built =
+        let m = rw v at k.5 in
+        let q : xs ≡ start_tag (tag_named n attributes k.0) ∷ (k.1 ++ (end_tag (tag_named n [] false) ∷ [])) =
+        k.3 ∙ ap (λ (ys : List TokenValue). start_tag (tag_named n attributes k.0) ∷ (k.1 ++ ys)) m.1 in
+        rw q (built k.0 k.1 k.4)
+
+    part_whole : is_among table_part_names n ≡ true → ((slash : Bool) (content : List TokenValue)
+        → SpellsForest children content → ElementBuilt p c n attributes slash content children s) → Whole
+    part_whole r built =
+        let t = part_tags n r in
+        with_content t.0 (λ slash content spelled. built slash content (rw t.1 at spelled))
+
+    void_whole : is_void n ≡ true → is_plain_element n ≡ true → Flows p s → Whole
+    void_whole v a w =
+        let m = rw v at k.5 in
+        let u = rw v at a in
+        let held : SpellsForest children k.1 = rw (void_keeps n v) at k.4 in
+        let none_held : k.1 ≡ [] = subst (λ ts. SpellsForest ts k.1) m.0 held in
+        let q : xs ≡ start_tag (tag_named n attributes k.0) ∷ [] =
+        k.3 ∙ ap (λ (ys : List TokenValue). start_tag (tag_named n attributes k.0) ∷ (ys ++ k.2)) none_held
+        ∙ ap (λ (ys : List TokenValue). start_tag (tag_named n attributes k.0) ∷ ys) m.1 in
+        rw (q, m.0) (void_built n attributes k.0 p c s v u f.0 h w)
+
+    pre_whole : n ≡ codes "pre" → is_void n ≡ false → Flows p s → Whole
+    pre_whole q v w =
+        with_content v (λ slash content spelled. subst (λ m. SpellsForest children (content_tokens m content)
+        → Fits (p ∷ c) m → FitsForest (m ∷ (p ∷ c)) children → ElementBuilt p c m attributes slash content children s)
+        (sym q) (λ spelled there below. pre_built attributes children ih slash content p c s g spelled there below h w)
+        spelled f.0 f.1)
+
+    in_flow_whole : Flows p s → Whole
+    in_flow_whole w =
+        let part = flow_fits p n w.0 (f.0).table in
+        let a = plain_in_flow n children part e in
+        test (is_void n) (λ v. void_whole v a w)
+        (λ v. test (is_plain_name n)
+        (λ t. with_content v (λ slash content spelled. full_built n attributes children ih slash content p c s t g
+        (rw (keeps_name n t) at spelled) f.0 f.1 h w))
+        (λ t. test (is_among (codes "pre" ∷ []) n) (λ y. pre_whole (one_name (codes "pre") n y) v w)
+        (λ y. test (is_among text_names n)
+        (λ x. with_content v (λ slash content spelled. text_alone_built n attributes children slash content p c s x
+        (rw (text_keeps n x) at spelled) f.0 f.1 (f.2 x) h w))
+        (λ x. let q = table_alone n (rw (v, t, y, x) at a) part in
+        part_whole (rw q refl) (λ slash content spelled. table_built n attributes children ih slash content p c s g
+        spelled f.1 h q f.0 w)))))
+
+    element_built : Whole
+    element_built = by_case h.mode
+      where
+        by_case : ModeIn p s.mode → Whole
+        by_case (in_flow o w) = in_flow_whole (o, w)
+        by_case (in_table q m) =
+            let r = section_plain n children (table_fits n (subst (λ y. fits_table y n ≡ true) q (f.0).table)) e in
+            part_whole (among_passes (is_among table_part_names) section_names n r refl)
+            (λ slash content spelled. section_built n attributes children ih slash content p c s g spelled f.1 h r q m)
+        by_case (in_section r m) =
+            let q = one_name (codes "tr") n (section_fits p n r (f.0).table) in
+            part_whole (rw q refl)
+            (λ slash content spelled. row_built n attributes children ih slash content p c s g spelled f.1 h q r m)
+        by_case (in_row q m) =
+            let r = row_fits n (subst (λ y. fits_table y n ≡ true) q (f.0).table) in
+            part_whole (among_passes (is_among table_part_names) cell_names n r refl)
+            (λ slash content spelled. cell_built n attributes children ih slash content p c s g spelled f.1 h r q m)
 
   -- ---- one tree after another
 
@@ -340,7 +549,7 @@ module _ (z : Bool) where
       let g = and_parts (is_plain_tree t) (are_plain ts) e in
       let first = this p c k.0 s k.3 g.0 f.1 h st in
       let there : at first.0 ≡ at s = ap (λ (stack : List OpenValue). (current stack).node) first.1.stack in
-      let others = all p c k.1 first.0 k.4 g.1 f.2 first.1.in_body
+      let others = all p c k.1 first.0 k.4 g.1 f.2 first.1.in_context
       (λ i. ap (last_text (first.0).nodes) there ∙ ap (λ (ns : List NodeValue). last_text ns (at s))
       first.1.nodes_are
       ∙ tree_last t (at s) s.nodes (within p c s h) ∙ no_text_next t ts f.0 i) in (
@@ -349,8 +558,9 @@ module _ (z : Bool) where
           through = subst (λ ys. Through z s ys others.0) (sym k.2) (followed z first.1.through others.1.through);
           nodes_are = others.1.nodes_are ∙ ap (λ m. with_forest m ts (first.0).nodes) there
               ∙ ap (with_forest (at s) ts) first.1.nodes_are ∙ forest_joined (at s) t ts s.nodes (within p c s h);
-          in_body = others.1.in_body;
+          in_context = others.1.in_context;
           stack = others.1.stack ∙ first.1.stack;
+          mode = others.1.mode ∙ first.1.mode;
           fewer = fewer_trans (others.0).formatting (first.0).formatting s.formatting others.1.fewer first.1.fewer;
         },
       )
@@ -360,7 +570,8 @@ module _ (z : Bool) where
     tree_built (text u) p c xs s k e f h st = text_built u p c xs s k e f h st
     tree_built (comment u) p c xs s k e f h st = comment_built u p c xs s k e f h st
     tree_built (element n attributes children) p c xs s k e f h st =
-        element_built n attributes children (forest_built children) p c xs s k e f h st
+        let g = and_parts (is_plain_element n || is_plain_body n children) (are_plain children) e in
+        element_built n attributes children (forest_built children) p c xs s k g.0 g.1 f h
     tree_built _ p c xs s k e f h st = absurd k
 
     pub forest_built : (ts : ValueForest) → ForestBuilt ts
@@ -370,8 +581,9 @@ module _ (z : Bool) where
         through = rw k nothing;
         nodes_are = sym (append-nil (append_children (at s) [] s.nodes) ∙ append_none (at s) s.nodes
             (within p c s h));
-        in_body = h;
+        in_context = h;
         stack = refl;
+        mode = refl;
         fewer = fewer_same s.formatting;
       },
     )

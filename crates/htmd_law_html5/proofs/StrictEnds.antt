@@ -20,12 +20,14 @@ use Rattle.htmd_html5_state.specs.declared.sets.Scope.TheVariants.{Default, Butt
 use Rattle.htmd_html5.specs.Outcomes.{done}
 use Rattle.htmd_html5.specs.BodyEnds.{text_end_rule, end_by, end_in_body, end_paragraph}
 use Rattle.htmd_html5.specs.Feeding.{feed, feed_end_tag}
+use Rattle.htmd_html5.specs.Modes.{in_mode}
 use Rattle.htmd_law_html5.specs.StrictTokens.{tag_named}
 use Rattle.htmd_law_html5.proofs.StrictOpen.{Fewer, listed_in, entries, Below, new_unlisted}
 use Rattle.htmd_law_html5.proofs.StrictNames.{same_itself, PlainCase, is_formatting_case, unknown, ordinary}
 use Rattle.htmd_law_html5.proofs.StrictNames.{formatting, anchor, paragraph, block, heading, list_item, part, no_break}
 use Rattle.htmd_law_html5.proofs.StrictNames.{button}
-use Rattle.htmd_law_html5.proofs.StrictRules.{IsInBody, unskipped, no_raw, goes, processed}
+use Rattle.htmd_law_html5.proofs.StrictRules.{InContext, unskipped, no_raw, goes, processed, by_flow}
+use Rattle.htmd_law_html5.proofs.StrictModes.{IsFlow, flows, ends_in_cell}
 use Rattle.htmd_html5_state.specs.declared.names.TagName.TheVariants as tags
 use Rattle.htmd_html5.specs.Tokens as construction
 
@@ -95,7 +97,7 @@ agency tag b es s attributes before k kind below fewer open_ =
 
 -- ---- end tags
 
-module _ (p : List ℕ) (c : List (List ℕ)) (s : StateValue) (h : IsInBody (p ∷ c) s) where
+module _ (p : List ℕ) (c : List (List ℕ)) (s : StateValue) (h : InContext (p ∷ c) s) where
   by_name : (name : NameValue) (n : ℕ) (es : List OpenValue) → s.stack ≡ opened n (html name) ∷ es
       → close_name name s.stack ≡ pop s.stack
   by_name name n es k = rw k (rw (same_itself name) refl)
@@ -111,12 +113,19 @@ module _ (p : List ℕ) (c : List (List ℕ)) (s : StateValue) (h : IsInBody (p 
       let closes : pop_until (Only tags.P) s.stack ≡ pop s.stack = rw k refl in
       rw scope (ap (λ (stack : List OpenValue). record s { stack = stack }) closes)
 
-  fed_end : (n : List ℕ) (new : StateValue) → end_in_body (name_of_text n) s ≡ done new
+  pub fed_end : (n : List ℕ) (new : StateValue)
+      → in_mode s.mode (construction.end_tag (name_of_text n)) s ≡ done new
       → feed (end_tag (tag_named n [] false)) s ≡ new
   fed_end n new e =
       let token : construction.TokenValue = construction.end_tag (name_of_text n) in
       ap (feed_end_tag (name_of_text n)) (unskipped p c s h)
       ∙ rw (no_raw p c s h) (processed p c s h token new (ap not (goes p c s h token)) e)
+
+  -- with what is done with it in the body
+  ended : (n : List ℕ) (new : StateValue) → IsFlow s.mode → flows n ≡ true
+      → end_in_body (name_of_text n) s ≡ done new → feed (end_tag (tag_named n [] false)) s ≡ new
+  ended n new w f e =
+      fed_end n new (by_flow p c s h (construction.end_tag (name_of_text n)) w e (ends_in_cell n f s ∙ e))
 
   plain_ended : (n : List ℕ) (k : PlainCase n) → is_formatting_case k ≡ false → (node : ℕ)
       (es : List OpenValue) → s.stack ≡ opened node (html (name_of_text n)) ∷ es
@@ -144,22 +153,25 @@ module _ (p : List ℕ) (c : List (List ℕ)) (s : StateValue) (h : IsInBody (p 
       ∙ ap (λ stack. done (record s { stack = stack })) (by_block (x.0).0 node es (rw (x.0).1 at k)))
   plain_ended n _ e node es k = absurd (cc)
 
-  pub plain_end : (n : List ℕ) (k : PlainCase n) → is_formatting_case k ≡ false → (node : ℕ)
+  pub plain_end : IsFlow s.mode → (n : List ℕ) → flows n ≡ true → (k : PlainCase n)
+      → is_formatting_case k ≡ false → (node : ℕ)
       (es : List OpenValue) → s.stack ≡ opened node (html (name_of_text n)) ∷ es
       → feed (end_tag (tag_named n [] false)) s ≡ record s { stack = es }
-  plain_end n k e node es q =
-      fed_end n (on_stack pop s) (plain_ended n k e node es q)
+  plain_end w n f k e node es q =
+      ended n (on_stack pop s) w f (plain_ended n k e node es q)
       ∙ ap (λ (stack : List OpenValue). record s { stack = pop stack }) q
 
-  pub pre_end : (node : ℕ) (es : List OpenValue) → s.stack ≡ opened node (html (name_of_text (codes "pre"))) ∷
+  pub pre_end : IsFlow s.mode → (node : ℕ) (es : List OpenValue)
+      → s.stack ≡ opened node (html (name_of_text (codes "pre"))) ∷
       es → feed (end_tag (tag_named (codes "pre") [] false)) s ≡ record s { stack = es }
   unfolding text_end_rule
-  pre_end node es q =
-      fed_end (codes "pre") (on_stack pop s)
+  pre_end w node es q =
+      ended (codes "pre") (on_stack pop s) w refl
       (ap (λ stack. done (record s { stack = stack })) (by_block tags.Pre node es q))
       ∙ ap (λ (stack : List OpenValue). record s { stack = pop stack }) q
 
-  pub formatting_end : (n : List ℕ) (k : PlainCase n) → is_formatting_case k ≡ true → (b : ℕ)
+  pub formatting_end : IsFlow s.mode → (n : List ℕ) → flows n ≡ true → (k : PlainCase n)
+      → is_formatting_case k ≡ true → (b : ℕ)
       (es : List OpenValue) (attributes : List AttributePair) (before : List (Option ℕ))
       → s.stack ≡ opened b (html (name_of_text n)) ∷ es
       → kind_at s.nodes b ≡ element (html (name_of_text n)) attributes → Below b es
@@ -167,16 +179,16 @@ module _ (p : List ℕ) (c : List (List ℕ)) (s : StateValue) (h : IsInBody (p 
       → (list : List (Option ℕ)) × Fewer list before
       × (feed (end_tag (tag_named n [] false)) s ≡ record s { stack = es; formatting = list })
   unfolding text_end_rule
-  formatting_end n (formatting x) e b es attributes before k kind below fewer open_ =
+  formatting_end w n f (formatting x) e b es attributes before k kind below fewer open_ =
       let a = agency x.0 b es s attributes before (rw x.1 at k) (rw x.1 at kind) below fewer open_ in (
         a.0,
         a.1,
-        fed_end n _ (rw x.1 (ap (λ r. end_by r x.0 s) x.3 ∙ ap done a.2)),
+        ended n _ w f (rw x.1 (ap (λ r. end_by r x.0 s) x.3 ∙ ap done a.2)),
       )
-  formatting_end n (anchor x) e b es attributes before k kind below fewer open_ =
+  formatting_end w n f (anchor x) e b es attributes before k kind below fewer open_ =
       let a = agency tags.A b es s attributes before (rw x at k) (rw x at kind) below fewer open_ in
-      (a.0, a.1, fed_end n _ (rw x (ap done a.2)))
-  formatting_end n (no_break x) e b es attributes before k kind below fewer open_ =
+      (a.0, a.1, ended n _ w f (rw x (ap done a.2)))
+  formatting_end w n f (no_break x) e b es attributes before k kind below fewer open_ =
       let a = agency tags.NoBr b es s attributes before (rw x at k) (rw x at kind) below fewer open_ in
-      (a.0, a.1, fed_end n _ (rw x (ap done a.2)))
-  formatting_end n _ e b es attributes before k kind below fewer open_ = absurd (cc)
+      (a.0, a.1, ended n _ w f (rw x (ap done a.2)))
+  formatting_end w n f _ e b es attributes before k kind below fewer open_ = absurd (cc)

@@ -76,9 +76,13 @@ a_name_of_its_own : is_plain_element (codes "my-card") ≡ true
 unfolding is_void
 a_name_of_its_own = refl
 
-a_table : is_plain_element (codes "table") ≡ false
+a_table : is_plain_element (codes "table") ≡ true
 unfolding is_void
 a_table = refl
+
+a_caption_is_not_plain : is_plain_element (codes "caption") ≡ false
+unfolding is_void
+a_caption_is_not_plain = refl
 
 an_element_of_only_text : is_plain_element (codes "style") ≡ true
 unfolding is_void
@@ -95,6 +99,17 @@ a_plain_paragraph : are_plain (more (trees.element (codes "p") [] (more (trees.t
 unfolding is_void
 a_plain_paragraph = refl
 
+-- a `tbody` that begins with a row may have no tags, and one that begins with a line feed has them
+a_body_of_rows : are_plain (more (trees.element (codes "tbody") []
+    (more (trees.element (codes "tr") [] none) none)) none) ≡ false
+unfolding is_void
+a_body_of_rows = refl
+
+a_body_of_lines : are_plain (more (trees.element (codes "tbody") [] (more (trees.text (codes "\n"))
+    (more (trees.element (codes "tr") [] none) none))) none) ≡ true
+unfolding is_void
+a_body_of_lines = refl
+
 -- ---- trees
 
 a_text_and_a_paragraph : html5_document false (codes "a<p>b</p>")
@@ -109,3 +124,15 @@ a_style_in_the_body : html5_document false (codes "a<style><b></style>")
     (more (trees.element (codes "style") [] (more (trees.text (codes "<b>")) none)) none)))
 unfolding html5_document block_rule formatting_rule phrasing_rule text_end_rule
 a_style_in_the_body = refl
+
+-- a table in a list item, with lines between its parts
+a_table_in_a_list : html5_document false
+    (codes "<ul><li><table>\n<tbody>\n<tr><td><b>c</b></td></tr></tbody></table>d</li></ul>")
+    ≡ document_items (skeleton (more (trees.element (codes "ul") [] (more (trees.element (codes "li") []
+    (more (trees.element (codes "table") [] (more (trees.text (codes "\n"))
+    (more (trees.element (codes "tbody") [] (more (trees.text (codes "\n"))
+    (more (trees.element (codes "tr") [] (more (trees.element (codes "td") []
+    (more (trees.element (codes "b") [] (more (trees.text (codes "c")) none)) none)) none)) none))) none)))
+    (more (trees.text (codes "d")) none))) none)) none))
+unfolding html5_document block_rule formatting_rule phrasing_rule text_end_rule
+a_table_in_a_list = refl

@@ -41,7 +41,8 @@ use Rattle.htmd_law_html5.proofs.StrictRuns.{content_read}
 use Rattle.htmd_law_html5.proofs.StrictNodes.{numbers, node, forest_nodes, with_forest}
 use Rattle.htmd_law_html5.proofs.StrictOpen.{name_kept}
 use Rattle.htmd_law_html5.proofs.StrictLaid.{plain_is_content}
-use Rattle.htmd_law_html5.proofs.StrictRules.{IsInBody}
+use Rattle.htmd_law_html5.proofs.StrictRules.{InContext}
+use Rattle.htmd_law_html5.proofs.StrictModes.{in_flow}
 use Rattle.htmd_law_html5.proofs.StrictThrough.{Through, Parts, parts}
 use Rattle.htmd_law_html5.proofs.StrictBuilt.{FitsForest, forest_built}
 use Rattle.htmd_law_html5.proofs.StrictPages.{fits_apart, forest_depth, plain_is_simple, forest_fits, in_step, root}
@@ -69,14 +70,15 @@ closed_state z = close_head (head_state z)
 abbrev implied_state : Bool → StateValue
 implied_state z = with_body (known tags.Body) [] (closed_state z)
 
-implied_state_is : (z : Bool) → IsInBody (codes "body" ∷ codes "html" ∷ []) (implied_state z)
+implied_state_is : (z : Bool) → InContext (codes "body" ∷ codes "html" ∷ []) (implied_state z)
 implied_state_is z = record {
-  mode = refl;
+  mode = in_flow refl (inl refl);
+  resets = λ e y. refl;
   content = refl;
   no_skip = refl;
   no_foster = refl;
   no_template = refl;
-  listed = inl (inl refl);
+  listed = inl (inl (inl (inl refl)));
   stands = (
     refl,
     ([], refl),
@@ -161,7 +163,7 @@ First z xs = (x : TokenValue) × (ys : List TokenValue) × (xs ≡ x ∷ ys)
 first_token : (z : Bool) (c : List (List ℕ)) (content : ValueForest) (xs : List TokenValue) → SpellsForest content
     xs → FitsForest c content → begins_body content ≡ true → First z xs
 first_token z c (more (text (b ∷ u)) ts) xs k f e =
-    let plain = and_parts (is_not_null b) (list_all is_not_null u) f.1 in (
+    let plain = and_parts (is_not_null b) (list_all is_not_null u) (f.1).0 in (
       tokens.text (b ∷ u),
       k.1,
       k.2 ∙ ap (λ (ys : List TokenValue). ys ++ k.1) k.3,
@@ -205,7 +207,8 @@ texts_agree z s content k mark e begins h =
     ) in
     let read : read_within (length s) s (initial_state z) ≡ b.0 =
     in_step z (length s) Normal Normal s [] r.0 (initial_state z) b.0 (codes "body") (codes "html" ∷ []) r.2 refl refl
-    (subst (λ xs. Parts z (initial_state z) xs b.0) (sym first.2) from_start) b.1.in_body (omega arith) in
+    (subst (λ xs. Parts z (initial_state z) xs b.0) (sym first.2) from_start) b.1.in_context (refl, inl b.1.mode)
+    (omega arith) in
     let whole : state_after z s ≡ b.0 =
     ap (λ (t : List ℕ). read_within (length t) t (initial_state z))
     (ap normalized mark ∙ lines_same s k.line_feeds) ∙ read in

@@ -1,5 +1,6 @@
 -- The nodes of trees are laid out as the items of the trees.
-use Rattle.std.proofs.Common.{None, max, ◌≤◌, ◌≡◌, ℕ, zero, suc, ◌+◌, ◌<◌, Bool, true, false, ◌&&◌, List, [], ◌∷◌, ◌++◌}
+use Rattle.std.proofs.Common.{None, max, ◌≤◌, ◌≡◌, ℕ, zero, suc, ◌+◌, ◌<◌, Bool, true, false, ◌&&◌, ◌||◌, List, [], ◌∷◌}
+use Rattle.std.proofs.Common.{◌++◌}
 use Rattle.std.proofs.Common.{map, length, refl, sym, ap, ◌∙◌, arith, append_assoc, length-append}
 use Rattle.std.specs.Prelude.{◌==◌}
 use Rattle.std.proofs.lemmas.Bool.{and_parts, eq-eqb}
@@ -15,7 +16,7 @@ use Rattle.htmd_html5_state.specs.Names.{ElementNameValue, html, name_of_text, t
 use Rattle.htmd_html5_state.specs.Nodes.{text_of, NodeValue, kind_at, with_kind}
 use Rattle.htmd_html5.specs.Layout.{next_text, next_texts, after_next_texts, parent_of_children, Coming, coming, Layout}
 use Rattle.htmd_html5.specs.Layout.{is_deepest, with_kind_of, without_node, put_node, layout_within}
-use Rattle.htmd_law_html5.specs.StrictTrees.{is_plain_element, is_plain_tree, are_plain}
+use Rattle.htmd_law_html5.specs.StrictTrees.{is_plain_element, is_plain_body, is_plain_tree, are_plain}
 use Rattle.htmd_law_html5.proofs.StrictNodes.{is_text, numbers, node, tree_nodes, forest_nodes, tree_count, kind_after}
 use Rattle.htmd_law_html5.proofs.StrictNodes.{children_after}
 use Rattle.htmd_grammar.specs.Grammar.{Apart}
@@ -85,7 +86,7 @@ abbrev mutual
 mutual
   plain_tree_is_content : (t : ValueTree) → is_plain_tree t ≡ true → is_content_tree t ≡ true
   plain_tree_is_content (element n attributes children) e =
-      plain_is_content children (and_parts (is_plain_element n) _ e).1
+      plain_is_content children (and_parts (is_plain_element n || is_plain_body n children) _ e).1
   plain_tree_is_content _ e = cc
 
   pub plain_is_content : (ts : ValueForest) → are_plain ts ≡ true → are_content ts ≡ true

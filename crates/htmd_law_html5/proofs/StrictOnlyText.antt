@@ -1,4 +1,4 @@
--- An element that holds only text, in the mode "in body": its tags and its text put it and its text.
+-- An element that holds only text, by the rules of the body: its tags and its text put it and its text.
 use Rattle.std.proofs.Common.{◌≡◌, ℕ, ◌<◌, Bool, true, false, List, [], ◌∷◌, ◌++◌, length, None, refl, sym, ap, ◌∙◌}
 use Rattle.std.proofs.Common.{arith, subst, codes, length-append}
 use Rattle.htmd_lexical.specs.AttributePairs.{AttributePair}
@@ -25,7 +25,7 @@ use Rattle.htmd_law_html5.proofs.StrictNodes.{with_tree, with_forest, filled}
 use Rattle.htmd_law_html5.proofs.StrictNames.{Each, among_each}
 use Rattle.htmd_law_html5.proofs.StrictOpen.{stands_html}
 use Rattle.htmd_law_html5.proofs.StrictThrough.{Through, nothing, with_fed}
-use Rattle.htmd_law_html5.proofs.StrictRules.{IsInBody, Fits, within, fed_start, nothing_again, no_p_closed}
+use Rattle.htmd_law_html5.proofs.StrictRules.{InContext, Flows, Fits, within, fed_start, nothing_again, no_p_closed}
 use Rattle.htmd_html5_tokens.specs.Tokens as tokens
 use Rattle.htmd_lexical.specs.declared.content_model.RawElement.TheVariants as raw
 use Rattle.htmd_html5_state.specs.declared.names.TagName.TheVariants as tags
@@ -36,13 +36,13 @@ use Rattle.htmd_html5_state.specs.Nodes as documents
 abbrev pub at : StateValue → ℕ
 at s = (current s.stack).node
 
-pub at_end : (p : List ℕ) (c : List (List ℕ)) (s : StateValue) → IsInBody (p ∷ c) s
+pub at_end : (p : List ℕ) (c : List (List ℕ)) (s : StateValue) → InContext (p ∷ c) s
     → place s ≡ last_in (at s)
 at_end p c s h = rw h.no_foster refl
 
 -- the nodes of an element without its content
 pub element_added : (p : List ℕ) (c : List (List ℕ)) (n : List ℕ) (attributes : List AttributePair)
-    (s : StateValue) → IsInBody (p ∷ c) s
+    (s : StateValue) → InContext (p ∷ c) s
     → add (documents.element (html (name_of_text n)) attributes) (place s) s.nodes
     ≡ append_children (at s) (length s.nodes ∷ []) s.nodes
     ++ node (documents.element (html (name_of_text n)) attributes) (at s) [] ∷ []
@@ -52,7 +52,7 @@ element_added p c n attributes s h =
 
 -- an element starts with nothing in it
 pub starts_empty : (p n : List ℕ) (c : List (List ℕ)) (attributes : List AttributePair) (s : StateValue)
-    → IsInBody (p ∷ c) s
+    → InContext (p ∷ c) s
     → last_text (add (documents.element (html (name_of_text n)) attributes) (place s) s.nodes)
     (length s.nodes) ≡ None
 starts_empty p n c attributes s h =
@@ -76,7 +76,7 @@ module _ (z : Bool) where
     pub nodes_are : nodes ≡ with_tree (at s) t s.nodes
     pub through : Through z s xs (record s { nodes = nodes; frameset_ok = ok })
 
-  module _ (p : List ℕ) (c : List (List ℕ)) (s : StateValue) (h : IsInBody (p ∷ c) s) where
+  module _ (p : List ℕ) (c : List (List ℕ)) (s : StateValue) (h : InContext (p ∷ c) s) (w : Flows p s) where
     -- the element is open, and the tokenizer told
     abbrev held : OpenValue → List NodeValue → Bool → RawElement → StateValue
     held e nodes ok kind = record s { nodes = nodes; stack = e ∷ s.stack; frameset_ok = ok; content = Raw kind }
@@ -98,22 +98,22 @@ module _ (z : Bool) where
     all_start : Each Starts text_names
     unfolding block_rule formatting_rule phrasing_rule
     all_start = (
-      λ f a b. (raw.Iframe, false, refl, refl, fed_start p c s h (tag_named (codes "iframe") a b)),
+      λ f a b. (raw.Iframe, false, refl, refl, fed_start p c s h w (codes "iframe") f a b),
       (
-        λ f a b. (raw.Noembed, s.frameset_ok, refl, refl, fed_start p c s h (tag_named (codes "noembed") a b)),
+        λ f a b. (raw.Noembed, s.frameset_ok, refl, refl, fed_start p c s h w (codes "noembed") f a b),
         (
-          λ f a b. (raw.Noframes, s.frameset_ok, refl, refl, fed_start p c s h (tag_named (codes "noframes") a b)),
+          λ f a b. (raw.Noframes, s.frameset_ok, refl, refl, fed_start p c s h w (codes "noframes") f a b),
           (
-            λ f a b. (raw.Style, s.frameset_ok, refl, refl, fed_start p c s h (tag_named (codes "style") a b)),
+            λ f a b. (raw.Style, s.frameset_ok, refl, refl, fed_start p c s h w (codes "style") f a b),
             (
-              λ f a b. (raw.Title, s.frameset_ok, refl, refl, fed_start p c s h (tag_named (codes "title") a b)),
+              λ f a b. (raw.Title, s.frameset_ok, refl, refl, fed_start p c s h w (codes "title") f a b),
               (
                 λ f a b. (
                   raw.Xmp,
                   false,
                   refl,
                   refl,
-                  fed_start p c s h (tag_named (codes "xmp") a b)
+                  fed_start p c s h w (codes "xmp") f a b
                       ∙ ap (λ stack. no_frameset (insert_raw (known tags.Xmp) raw.Xmp a
                       (reconstruct (record s { stack = stack })))) (no_p_closed p c s h (f.paragraph refl))
                       ∙ ap (λ (y : StateValue). no_frameset (insert_raw (known tags.Xmp) raw.Xmp a y))

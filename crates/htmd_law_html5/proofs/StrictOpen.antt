@@ -19,7 +19,7 @@ use Rattle.htmd_html5_state.specs.Foreign.{current_is_html}
 use Rattle.htmd_html5_state.specs.Insertion.{current}
 use Rattle.htmd_html5_state.specs.Sets.{is_of, bounds}
 use Rattle.htmd_html5_state.specs.Formatting.{is_listed, without_entry, without_some, with_room_for, with_room}
-use Rattle.htmd_html5_state.specs.Formatting.{since_marker, closed_elements}
+use Rattle.htmd_html5_state.specs.Formatting.{since_marker, after_marker, closed_elements}
 use Rattle.htmd_html5_state.specs.Adoption.{node_is}
 use Rattle.htmd_html5_state.specs.declared.names.TagName.{TagName}
 use Rattle.htmd_html5_state.specs.declared.sets.NameSet.{NameSet}
@@ -87,6 +87,16 @@ fewer_with_room nodes kind fs =
     fewer_trans (with_room (with_room_for nodes kind fs)) (with_room_for nodes kind fs) fs
     (fewer_without_some _ (with_room_for nodes kind fs)) (fewer_without_some _ fs)
 
+fewer_after : (fs : List (Option ℕ)) → Fewer (after_marker fs) fs
+fewer_after [] = refl
+fewer_after (None ∷ fs) = inl (fewer_same fs)
+fewer_after (Some n ∷ fs) = inl (fewer_after fs)
+
+-- without the last marker and what is newer
+pub fewer_cleared : (fs gs : List (Option ℕ)) → Fewer fs (None ∷ gs) → Fewer (after_marker fs) gs
+fewer_cleared fs gs (inl h) = fewer_trans (after_marker fs) fs gs (fewer_after fs) h
+fewer_cleared fs gs (inr h) = rw h.1 h.2
+
 pub listed_in : (n : ℕ) (fs gs : List (Option ℕ)) → Fewer fs gs → is_listed n fs ≡ true → is_listed n
     gs ≡ true
 listed_in n fs [] h e = subst (λ x. is_listed n x ≡ true) h e
@@ -101,9 +111,10 @@ listed_in n fs (Some m ∷ gs) (inr h) e =
 
 -- ---- what is open
 
+-- what may be listed: each of them, and a marker before it
 abbrev pub entries : List OpenValue → List (Option ℕ)
 entries [] = []
-entries (e ∷ es) = Some e.node ∷ entries es
+entries (e ∷ es) = Some e.node ∷ None ∷ entries es
 
 abbrev pub Below : ℕ → List OpenValue → Type 0
 Below n [] = Unit {0}
@@ -116,11 +127,16 @@ pub new_unlisted : (n : ℕ) (es : List OpenValue) → Below n es → is_listed 
 new_unlisted n [] h = refl
 new_unlisted n (e ∷ es) h = rw (not_itself e.node n h.0) (new_unlisted n es h.1)
 
+past_marker : (n : ℕ) (fs gs : List (Option ℕ)) → Fewer (Some n ∷ fs) (None ∷ gs) → Fewer (Some n ∷ fs) gs
+past_marker n fs gs (inl h) = h
+past_marker n fs gs (inr h) = absurd (let q = h.1 in cc)
+
 -- the first of some entries is open
 first_open : (n : ℕ) (fs : List (Option ℕ)) (es : List OpenValue) → Fewer (Some n ∷ fs) (entries es)
     → is_open_node n es ≡ true
 first_open n fs [] h = absurd (cc)
-first_open n fs (e ∷ es) (inl h) = or_right (e.node == n) (is_open_node n es) (first_open n fs es h)
+first_open n fs (e ∷ es) (inl h) =
+    or_right (e.node == n) (is_open_node n es) (first_open n fs es (past_marker n fs (entries es) h))
 first_open n fs (e ∷ es) (inr h) =
     let q : e.node ≡ n = same h.1 in rw q (rw (eq-eqb n n refl) refl)
   where
@@ -215,8 +231,11 @@ none_listed tag names h nodes (n ∷ c) (x ∷ es) fs s f e =
     let other_tag : node_is nodes tag x.node ≡ false =
     rw ((s.1).1, s.0) (is_tag_of tag (name_of_text n) (h n k.0)) in
     elim f [
-      | inl g ↦ none_listed tag names h nodes c es fs s.4 g k.1
-      | inr g ↦ rw (g.1, other_tag) (none_listed tag names h nodes c es g.0 s.4 g.2 k.1)
+      | inl g ↦
+          elim g [ inl i ↦ none_listed tag names h nodes c es fs s.4 i k.1 | inr i ↦ rw i.1 refl ]
+      | inr g ↦
+          rw (g.1, other_tag)
+          (elim g.2 [ inl i ↦ none_listed tag names h nodes c es g.0 s.4 i k.1 | inr i ↦ rw i.1 refl ])
     ]
 none_listed tag names h nodes _ _ fs s f e = absurd s
 

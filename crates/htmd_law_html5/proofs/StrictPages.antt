@@ -1,5 +1,6 @@
 -- A page of the strict grammar with plain trees: the lenient reader gives the same tree.
-use Rattle.std.proofs.Common.{◌≡◌, ℕ, zero, suc, ◌+◌, ◌≤◌, Bool, true, false, not, ◌&&◌, List, [], ◌∷◌, ◌++◌, length}
+use Rattle.std.proofs.Common.{◌≡◌, ℕ, zero, suc, ◌+◌, ◌≤◌, Bool, true, false, not, ◌&&◌, ◌||◌, List, [], ◌∷◌, ◌++◌}
+use Rattle.std.proofs.Common.{length}
 use Rattle.std.proofs.Common.{map, None, refl, sym, ap, ◌∙◌, arith, inl, inr, codes, subst}
 use Rattle.std.proofs.lemmas.Bool.{and_parts, not-true}
 use Rattle.std.proofs.lemmas.List.{append-nil}
@@ -16,7 +17,7 @@ use Rattle.htmd_grammar.specs.Nesting.{fits_open_elements, fits_lists, closes_pa
 use Rattle.htmd_grammar.specs.Nesting.{is_heading, is_open, is_met_before}
 use Rattle.htmd_grammar.specs.RawContent.{holds_text_alone, content_of}
 use Rattle.htmd_grammar.specs.HtmlDocuments.{below_body, skeleton}
-use Rattle.htmd_grammar.proofs.NestingLemmas.{allowed_parts}
+use Rattle.htmd_grammar.proofs.NestingLemmas.{allowed_parts, one_name}
 use Rattle.htmd_grammar.proofs.TreeTexts.{Inside}
 use Rattle.htmd_nodes.specs.Items.{document_item, greatest_depth}
 use Rattle.htmd_nodes.specs.Layout.{sizes, document_items}
@@ -33,19 +34,21 @@ use Rattle.htmd_html5.specs.Html5Documents.{next_read, after_token, read_within,
 use Rattle.htmd_html5.specs.Layout.{coming, Layout, document_of, layout_within}
 use Rattle.htmd_law_html5.specs.StrictReferences.{IsUnambiguous}
 use Rattle.htmd_law_html5.specs.StrictTokens.{content_after, tag_named, is_simple_tree, is_simple}
-use Rattle.htmd_law_html5.specs.StrictTrees.{is_plain_element, is_plain_tree, are_plain, text_names, PlainPagesAgree}
+use Rattle.htmd_law_html5.specs.StrictTrees.{is_plain_element, is_plain_body, is_plain_tree, are_plain, text_names}
+use Rattle.htmd_law_html5.specs.StrictTrees.{PlainPagesAgree}
 use Rattle.htmd_law_html5.proofs.StrictCuts.{lacks_cut}
 use Rattle.htmd_law_html5.proofs.StrictPlainTexts.{plain_text, content_lacks}
 use Rattle.htmd_law_html5.proofs.StrictTokenCuts.{read, lines_same}
 use Rattle.htmd_law_html5.proofs.StrictRawTexts.{raw_children}
-use Rattle.htmd_law_html5.proofs.StrictSteps.{Run, here, onward, no_tbody}
+use Rattle.htmd_law_html5.proofs.StrictSteps.{Run, here, onward}
 use Rattle.htmd_law_html5.proofs.StrictRuns.{content_read}
 use Rattle.htmd_law_html5.proofs.StrictNodes.{numbers, node, forest_nodes, forest_count, with_forest}
 use Rattle.htmd_law_html5.proofs.StrictOpen.{the_document, open_met}
 use Rattle.htmd_law_html5.proofs.StrictLaid.{ApartTree, ApartForest, levels, most_levels, layout, are_content}
 use Rattle.htmd_law_html5.proofs.StrictLaid.{plain_is_content, forest_laid}
-use Rattle.htmd_law_html5.proofs.StrictSets.{aside_element, text_aside, text_alone}
-use Rattle.htmd_law_html5.proofs.StrictRules.{IsInBody, Fits, end_of_file_fed}
+use Rattle.htmd_law_html5.proofs.StrictSets.{plain_aside, text_alone}
+use Rattle.htmd_law_html5.proofs.StrictRules.{InContext, Flows, Fits, end_of_file_fed}
+use Rattle.htmd_law_html5.proofs.StrictModes.{in_flow}
 use Rattle.htmd_law_html5.proofs.StrictOnlyText.{IsOneText}
 use Rattle.htmd_law_html5.proofs.StrictBuilt.{FitsTree, FitsForest, forest_built}
 use Rattle.htmd_law_html5.proofs.StrictThrough.{Parts, parts}
@@ -56,8 +59,9 @@ use Rattle.htmd_html5_state.specs.Nodes as documents
 mutual
   plain_tree_is_simple : (t : ValueTree) → is_plain_tree t ≡ true → is_simple_tree t ≡ true
   plain_tree_is_simple (element n attributes children) e =
-      let g = and_parts (is_plain_element n) (are_plain children) e in
-      rw (aside_element n g.0, plain_is_simple children g.1) refl
+      let g = and_parts (is_plain_element n || is_plain_body n children) (are_plain children) e in
+      let a = plain_aside n children g.0 in
+      rw (a.0, a.1, plain_is_simple children g.1) refl
   plain_tree_is_simple _ e = refl
 
   pub plain_is_simple : (ts : ValueForest) → are_plain ts ≡ true → is_simple ts ≡ true
@@ -96,6 +100,7 @@ element_fits z c n a =
           (not_both (closes_paragraph n) (is_open (codes "p" ∷ []) d) both.0 e);
       itself = λ e. open_met (n ∷ []) d (not_both (excludes_itself n) (is_open (n ∷ []) d) both.1 e);
       inside = (allowed_parts z d n a).0;
+      table = (allowed_parts z d n a).2;
       heading = λ e. not_both (is_heading n) (is_heading (parent_name d)) heads.1 e;
       item = λ e. not_both (is_among (codes "li" ∷ []) n) _ items.0 (rw e refl);
       part = λ e. not_both (is_among (codes "dd" ∷ codes "dt" ∷ []) n) _ items.1 e;
@@ -128,12 +133,13 @@ module _ (z : Bool) where
       (λ v. let m = rw v at w.5 in
       let k = raw_children z n (c ++ the_document) true children (content_of n w.1) m.0 (text_alone z n e) in
       elim k [ inl a ↦ rw a.0 tt | inr a ↦ rw a.1 tt ])
-  text_fits n attributes children c last s e (inr w) = absurd (no_tbody z n (text_aside n e) w.3)
+  text_fits n attributes children c last s e (inr w) =
+      absurd (let u = rw (one_name (codes "tbody") n w.3) at e in cc)
 
   mutual
     tree_fits : (t : ValueTree) (c : List (List ℕ)) (last : Bool) (s : List ℕ) → lacks 0 s ≡ true
         → ReadsTree (project z) (c ++ the_document) last t s → FitsTree c t
-    tree_fits (text u) c last s l h = plain_text z (parent_name (c ++ the_document)) s u l h.2 h.0
+    tree_fits (text u) c last s l h = (plain_text z (parent_name (c ++ the_document)) s u l h.2 h.0, h.3)
     tree_fits (element n attributes children) c last s l h = (
       element_fits z c n h.0,
       content_fits n children (λ d i r m k. forest_fits children d i r m k) attributes c last s l h.2,
@@ -150,26 +156,26 @@ module _ (z : Bool) where
 
 -- ---- reading and feeding in step
 
-nothing_left : (k : ℕ) (p : List ℕ) (c : List (List ℕ)) (s : StateValue) → IsInBody (p ∷ c) s
+nothing_left : (k : ℕ) (p : List ℕ) (c : List (List ℕ)) (s : StateValue) → InContext (p ∷ c) s → Flows p s
     → read_within k [] s ≡ s
-nothing_left zero p c s h = end_of_file_fed p c s h
-nothing_left (suc k) p c s h =
+nothing_left zero p c s h w = end_of_file_fed p c s h w
+nothing_left (suc k) p c s h w =
     ap (λ m. after_token (read_within k) (next_token m (not (current_is_html s.stack)) []) s) h.content
-    ∙ end_of_file_fed p c s h
+    ∙ end_of_file_fed p c s h w
 
 pub in_step : (z : Bool) (k : ℕ) (now after : ContentModel) (page left : List ℕ) (xs : List TokenValue)
     (s new : StateValue)
     (p : List ℕ) (c : List (List ℕ)) → Run z now page xs after left → s.content ≡ now → left ≡ []
-    → Parts z s xs new → IsInBody (p ∷ c) new → length page ≤ k → read_within k page s ≡ new
-in_step z k now after page left xs s new p c here n e r h l = rw (e, r) (nothing_left k p c new h)
-in_step z zero now after page left xs s new p c (onward token rest f g m q) n e r h l = absurd (omega arith)
-in_step z (suc k) now after page left xs s new p c (onward token rest f g m q) n e r h l =
+    → Parts z s xs new → InContext (p ∷ c) new → Flows p new → length page ≤ k → read_within k page s ≡ new
+in_step z k now after page left xs s new p c here n e r h w l = rw (e, r) (nothing_left k p c new h w)
+in_step z zero now after page left xs s new p c (onward token rest f g m q) n e r h w l = absurd (omega arith)
+in_step z (suc k) now after page left xs s new p c (onward token rest f g m q) n e r h w l =
     let token_read : next_read page s ≡ read token rest =
     ap (λ c. next_token c (not (current_is_html s.stack)) page) n
     ∙ ap (λ b. next_token now (not b) page) r.0 ∙ f in
     let told : (feed token s).content ≡ content_after z now token = r.1 ∙ ap (λ c. content_after z c token) n in
     ap (λ x. after_token (read_within k) x s) token_read
-    ∙ rw g (in_step z k _ after rest left _ (feed token s) new p c q told e (parts z r.2) h (omega (arith, m, l)))
+    ∙ rw g (in_step z k _ after rest left _ (feed token s) new p c q told e (parts z r.2) h w (omega (arith, m, l)))
 
 -- ---- the page
 
@@ -177,14 +183,15 @@ in_step z (suc k) now after page left xs s new p c (onward token rest f g m q) n
 abbrev pub body_state : Bool → StateValue
 body_state z = feed (start_tag (tag_named (codes "body") [] false)) (initial_state z)
 
-body_state_is : (z : Bool) → IsInBody (codes "body" ∷ codes "html" ∷ []) (body_state z)
+body_state_is : (z : Bool) → InContext (codes "body" ∷ codes "html" ∷ []) (body_state z)
 body_state_is z = record {
-  mode = refl;
+  mode = in_flow refl (inl refl);
+  resets = λ e y. refl;
   content = refl;
   no_skip = refl;
   no_foster = refl;
   no_template = refl;
-  listed = inl (inl refl);
+  listed = inl (inl (inl (inl refl)));
   stands = (
     refl,
     ([], refl),
@@ -286,7 +293,7 @@ pages_agree z s content k e h =
     let whole : state_after z (codes "<body>" ++ s) ≡ b.0 =
     page_read z s k ∙ in_step z (length (codes "body>" ++ s)) Normal Normal s [] r.0 (body_state z) b.0 (codes "body")
     (codes "html" ∷ [])
-    r.2 refl refl (parts z b.1.through) b.1.in_body (omega arith) in
+    r.2 refl refl (parts z b.1.through) b.1.in_context (refl, inl b.1.mode) (omega arith) in
     ap (λ st. document_of greatest_depth st.nodes) whole
     ∙ ap (document_of greatest_depth) (b.1.nodes_are ∙ page_nodes z content)
     ∙ page_laid content (plain_is_content content e) (fits_apart (codes "body" ∷ codes "html" ∷ []) content f)

@@ -1,5 +1,5 @@
 -- The tokens of a text of the strict grammar are those of its trees.
-use Rattle.std.proofs.Common.{◌≡◌, ◌≢◌, ◌⊎◌, ℕ, Bool, true, false, not, List, [], ◌∷◌, ◌++◌, length, drop, Some, refl}
+use Rattle.std.proofs.Common.{◌≡◌, ◌≢◌, ℕ, Bool, true, false, not, List, [], ◌∷◌, ◌++◌, length, drop, Some, refl}
 use Rattle.std.proofs.Common.{sym, ap, ◌∙◌, arith, inl, inr, codes, subst, append_assoc}
 use Rattle.std.specs.Prelude.{◌==◌}
 use Rattle.std.proofs.lemmas.Bool.{and_parts, not-true, eqb-true}
@@ -39,8 +39,8 @@ use Rattle.htmd_law_html5.proofs.StrictRawTexts.{raw_keeps, raw_children, stop_s
 use Rattle.htmd_law_html5.proofs.StrictLineFeeds.{kept_begins, feed_case, dropped_feed, Feed, feed_text}
 use Rattle.htmd_law_html5.proofs.StrictSteps.{Run, here, onward, joined, from_content, from_text, all_read, Made}
 use Rattle.htmd_law_html5.proofs.StrictSteps.{shorter, one_token, TreeRun, ForestRun, tag_filled, end_filled}
-use Rattle.htmd_law_html5.proofs.StrictSteps.{plain_text, text_run, comment_run, no_tbody, text_ending}
-use Rattle.htmd_law_html5.proofs.StrictSteps.{unambiguous_after}
+use Rattle.htmd_law_html5.proofs.StrictSteps.{plain_text, text_run, comment_run, simple_parts, text_ending}
+use Rattle.htmd_law_html5.proofs.StrictSteps.{not_implied, unambiguous_after}
 use Rattle.htmd_html5_tokens.specs.Tokens as tokens
 use Rattle.htmd_html5_tokens.specs.NextToken as next
 
@@ -273,8 +273,8 @@ module _ (z : Bool) where
   element_run : (n : List ℕ) (attributes : List AttributePair) (ks : ValueForest) → ForestRun z ks → Tail ks
       → TreeRun z (element n attributes ks)
   element_run n attributes ks ih tail p c last s rest h e o k st =
-      let parts = and_parts (not (is_set_aside n)) (is_simple ks) o in
-      let aside = not-true (is_set_aside n) parts.0 in
+      let parts = simple_parts z n attributes ks o in
+      let aside = parts.0 in
       let outside = (allowed_parts z (p ∷ c) n h.0).0 in
       elim h.2 [
         | inl w ↦
@@ -294,11 +294,11 @@ module _ (z : Bool) where
             let j = unambiguous_outside n (w.1 ++ (w.2 ++ rest)) content in
             rw w.3 (closed_run n w.0 w.1 w.2 rest attributes ks w.4 v i (test (drops_line_feed n)
             (λ d. feed_closed n ks ih tail (p ∷ c) w.1 w.2 rest (rw d at m.0) m.1 d (pre_plain z n d aside) outside
-            parts.1 j)
+            parts.2 j)
             (λ d. let inside = subst (ReadsForest (project z) (n ∷ (p ∷ c)) true ks) (content_plain n w.1 d) m.0 in
             test (holds_text_alone z n) (λ t. raw_closed n ks (p ∷ c) w.1 w.2 rest inside m.1 t aside content)
-            (λ t. normal_closed n ks ih (p ∷ c) w.1 w.2 rest inside m.1 d t outside parts.1 j)))))
-        | inr w ↦ absurd (no_tbody z n aside w.3)
+            (λ t. normal_closed n ks ih (p ∷ c) w.1 w.2 rest inside m.1 d t outside parts.2 j)))))
+        | inr w ↦ absurd (not_implied z n ks parts.1 w.3 w.5)
       ]
 
   -- ---- one tree after another

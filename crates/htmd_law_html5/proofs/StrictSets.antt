@@ -1,19 +1,23 @@
 -- Which names a set has, and what plain names are none of.
-use Rattle.std.proofs.Common.{◌≡◌, ℕ, Bool, true, false, not, List, [], ◌∷◌, refl, sym, codes}
-use Rattle.std.proofs.lemmas.Bool.{not-true}
+use Rattle.std.proofs.Common.{◌≡◌, ℕ, Bool, true, false, not, ◌||◌, List, [], ◌∷◌, refl, sym, codes}
+use Rattle.std.proofs.lemmas.Bool.{and_parts, not-true}
 use Rattle.htmd_lexical.proofs.Cases.{test}
 use Rattle.htmd_lexical.specs.CharacterClasses.{is_among}
 use Rattle.htmd_lexical.proofs.BytesLemmas.{same_bytes, bytes_same}
 use Rattle.htmd_grammar.proofs.NestingLemmas.{one_name, among_passes}
 use Rattle.htmd_grammar.specs.RawContent.{drops_line_feed, holds_text_alone}
 use Rattle.htmd_values.specs.Serialisation.{is_void, void_elements}
+use Rattle.htmd_values.specs.ValueTrees.{ValueForest}
+use Rattle.htmd_grammar.specs.Grammar.{begins_with_row}
+use Rattle.htmd_grammar.specs.Nesting.{is_tbody}
 use Rattle.htmd_lexical.specs.declared.content_model.ContentModel.TheVariants.{Normal}
 use Rattle.htmd_html5_state.specs.Names.{known, html, spelling}
 use Rattle.htmd_html5_state.specs.Sets.{is_of}
 use Rattle.htmd_html5_state.specs.declared.names.TagName.{TagName}
 use Rattle.htmd_html5_state.specs.declared.sets.NameSet.TheVariants.{Only, Headings, DescriptionParts}
 use Rattle.htmd_law_html5.specs.StrictTrees.{heading_names, is_plain_name, is_plain_element, text_names}
-use Rattle.htmd_law_html5.specs.StrictTokens.{content_in, is_set_aside}
+use Rattle.htmd_law_html5.specs.StrictTrees.{table_names, is_plain_body}
+use Rattle.htmd_law_html5.specs.StrictTokens.{content_in, is_set_aside, may_be_implied}
 use Rattle.htmd_law_html5.proofs.StrictRawTexts.{is_name}
 use Rattle.htmd_law_html5.proofs.StrictOpen.{HasNames, has_names}
 use Rattle.htmd_html5_state.specs.declared.names.TagName.TheVariants as tags
@@ -62,7 +66,7 @@ aside_name : (n : List ℕ) → is_plain_name n ≡ true → is_set_aside n ≡ 
 aside_name n e =
     is_name n (codes "textarea") (λ t. absurd (let w = rw t at e in cc))
     (λ a. is_name n (codes "script") (λ t. absurd (let w = rw t at e in cc))
-    (λ b. is_name n (codes "tbody") (λ t. absurd (let w = rw t at e in cc)) (λ c. rw (a, b, c) refl)))
+    (λ b. rw (a, b) refl))
 
 void_aside : (n : List ℕ) → is_void n ≡ true → not (is_set_aside n) ≡ true
 unfolding is_void
@@ -78,14 +82,33 @@ text_keeps n e = not-true (drops_line_feed n) (among_passes (λ m. not (drops_li
 pub text_alone : (z : Bool) (n : List ℕ) → is_among text_names n ≡ true → holds_text_alone z n ≡ true
 text_alone z n e = among_passes (holds_text_alone z) text_names n e refl
 
-pub aside_element : (n : List ℕ) → is_plain_element n ≡ true → is_set_aside n ≡ false
+aside_element : (n : List ℕ) → is_plain_element n ≡ true → is_set_aside n ≡ false
 aside_element n e =
     test (is_void n) (λ v. not-true (is_set_aside n) (void_aside n v))
     (λ v. let w = rw v at e in
     test (is_plain_name n) (λ t. aside_name n t)
     (λ t. let x = rw t at w in
     test (is_among (codes "pre" ∷ []) n) (λ y. rw (one_name (codes "pre") n y) refl)
-    (λ y. text_aside n (rw y at x))))
+    (λ y. let u = rw y at x in
+    test (is_among text_names n) (λ k. text_aside n k)
+    (λ k. not-true (is_set_aside n) (among_passes (λ m. not (is_set_aside m)) table_names n (rw k at u) refl)))))
+
+element_spelled : (n : List ℕ) (children : ValueForest) → is_plain_element n ≡ true
+    → may_be_implied n children ≡ false
+unfolding is_void
+element_spelled n children e =
+    test (is_tbody n) (λ t. absurd (let w = rw (one_name (codes "tbody") n t) at e in cc)) (λ t. rw t refl)
+
+-- a plain element is simple by itself
+pub plain_aside : (n : List ℕ) (children : ValueForest)
+    → (is_plain_element n || is_plain_body n children) ≡ true
+    → (is_set_aside n ≡ false) × (may_be_implied n children ≡ false)
+plain_aside n children e =
+    test (is_plain_element n) (λ t. (aside_element n t, element_spelled n children t))
+    (λ t. let b = and_parts (is_tbody n) (not (begins_with_row children)) (rw t at e) in (
+      rw (one_name (codes "tbody") n b.0) refl,
+      rw (b.0, not-true (begins_with_row children) b.1) refl,
+    ))
 
 -- and none drops a line feed
 pub keeps_name : (n : List ℕ) → is_plain_name n ≡ true → drops_line_feed n ≡ false

@@ -1,5 +1,6 @@
 -- Tokens that are read one after another; a text and a comment of the strict grammar, and what follows a text.
-use Rattle.std.proofs.Common.{◌≡◌, ◌≢◌, ℕ, zero, suc, ◌<◌, ◌≤◌, Bool, true, false, not, List, [], ◌∷◌, ◌++◌, length}
+use Rattle.std.proofs.Common.{◌≡◌, ◌≢◌, ℕ, zero, suc, ◌<◌, ◌≤◌, Bool, true, false, not, ◌&&◌, List, [], ◌∷◌, ◌++◌}
+use Rattle.std.proofs.Common.{length}
 use Rattle.std.proofs.Common.{Some, refl, sym, ap, ◌∙◌, arith, inl, inr, codes, subst, append_assoc, length-append}
 use Rattle.std.proofs.lemmas.Bool.{and_parts, or_parts, not-true}
 use Rattle.std.proofs.lemmas.List.{append-nil}
@@ -7,7 +8,7 @@ use Rattle.htmd_lexical.specs.AttributePairs.{AttributePair}
 use Rattle.htmd_values.specs.ValueTrees.{ValueTree, ValueForest, none, more, text}
 use Rattle.htmd_values.specs.ValueTrees.{comment, element}
 use Rattle.htmd_lexical.specs.CharacterClasses.{is_among, up_to}
-use Rattle.htmd_grammar.specs.Grammar.{Apart, may_end_rows, ReadsTree, ReadsForest}
+use Rattle.htmd_grammar.specs.Grammar.{Apart, begins_with_row, may_end_rows, ReadsTree, ReadsForest}
 use Rattle.htmd_grammar.specs.Nesting.{Context, is_tbody}
 use Rattle.htmd_grammar.specs.RawContent.{holds_text_alone, holds_raw_text, ends_text, begins_markup, text_of}
 use Rattle.htmd_grammar.specs.Rules.{named_characters, project}
@@ -15,7 +16,6 @@ use Rattle.htmd_grammar.specs.References.{decode}
 use Rattle.htmd_grammar.specs.Tags.{IsStartTag, IsEndTag}
 use Rattle.htmd_values.specs.Serialisation.{is_void}
 use Rattle.htmd_lexical.proofs.Cases.{test}
-use Rattle.htmd_grammar.proofs.NestingLemmas.{one_name}
 use Rattle.htmd_grammar.proofs.TreeTexts.{Inside, IsTextTree}
 use Rattle.htmd_html5_tokens.specs.Tokens.{TokenValue}
 use Rattle.htmd_html5_tokens.specs.NextToken.{next_token}
@@ -24,7 +24,7 @@ use Rattle.htmd_lexical.specs.declared.content_model.ContentModel.TheVariants.{N
 use Rattle.htmd_html5.specs.Html5Documents.{is_end}
 use Rattle.htmd_law_html5.specs.StrictReferences.{in_tag, IsUnambiguousAt, IsUnambiguous}
 use Rattle.htmd_law_html5.specs.StrictTokens.{content_after, tokens_within, SpellsTree, SpellsForest, is_set_aside}
-use Rattle.htmd_law_html5.specs.StrictTokens.{is_simple_tree, is_simple}
+use Rattle.htmd_law_html5.specs.StrictTokens.{may_be_implied, is_simple_tree, is_simple}
 use Rattle.htmd_law_html5.proofs.StrictReferencesLemmas.{Ending}
 use Rattle.htmd_law_html5.proofs.StrictCuts.{unambiguous_in_tag, unambiguous_past, unambiguous_after_sign, EndsInSign}
 use Rattle.htmd_law_html5.proofs.StrictCuts.{sign_before, start_sign, end_sign}
@@ -127,8 +127,18 @@ module _ (z : Bool) where
 
   -- ---- what follows a text
 
-  pub no_tbody : (n : List ℕ) → is_set_aside n ≡ false → is_tbody n ≡ true → ⊥
-  no_tbody n a e = let w = rw (one_name (codes "tbody") n e) at a in cc
+  -- what a simple element is, and that its tags stand there
+  pub simple_parts : (n : List ℕ) (attributes : List AttributePair) (ks : ValueForest)
+      → is_simple_tree (element n attributes ks) ≡ true
+      → (is_set_aside n ≡ false) × (may_be_implied n ks ≡ false) × (is_simple ks ≡ true)
+  simple_parts n attributes ks o =
+      let parts = and_parts (not (is_set_aside n) && not (may_be_implied n ks)) (is_simple ks) o in
+      let own = and_parts (not (is_set_aside n)) (not (may_be_implied n ks)) parts.0 in
+      (not-true (is_set_aside n) own.0, not-true (may_be_implied n ks) own.1, parts.1)
+
+  pub not_implied : (n : List ℕ) (ks : ValueForest) → may_be_implied n ks ≡ false → is_tbody n ≡ true
+      → begins_with_row ks ≡ true → ⊥
+  not_implied n ks a t b = let w = rw (t, b) at a in cc
 
   -- a text ends at the end, or before markup
   pub text_ending : (t : ValueTree) (ts : ValueForest) (p : List ℕ) (c : Context) (last : Bool) (s rest : List ℕ)
@@ -143,10 +153,10 @@ module _ (z : Bool) where
       ++ rest) (h.4).0 (subst (IsUnambiguousAt in_tag) q k)).1)
   text_ending t (more (element n attributes ks) ts) p c last s rest i a h o k st = go (h.4).2
     where
-      aside : is_set_aside n ≡ false
-      aside =
+      spelled : may_be_implied n ks ≡ false
+      spelled =
           let b = and_parts (is_simple_tree (element n attributes ks)) (is_simple ts) o in
-          not-true (is_set_aside n) (and_parts (not (is_set_aside n)) (is_simple ks) b.0).0
+          (simple_parts n attributes ks b.0).1
 
       go : Inside (project z) (p ∷ c) (may_end_rows last ts h.1) n attributes ks h.0 → Ending (s ++ rest)
       go (inl w) =
@@ -155,7 +165,7 @@ module _ (z : Bool) where
           ∙ ap (λ (y : List ℕ). y ++ (h.1 ++ rest)) w.3 ∙ append_assoc w.0 (w.1 ++ w.2) (h.1 ++ rest) in
           inr (ap next.begins_markup q
           ∙ (start_read w.0 n ((w.1 ++ w.2) ++ (h.1 ++ rest)) attributes w.4 (subst (IsUnambiguousAt in_tag) q k)).3)
-      go (inr w) = absurd (no_tbody n aside w.3)
+      go (inr w) = absurd (not_implied n ks spelled w.3 w.5)
   text_ending t (more _ ts) p c last s rest i a h o k st = absurd (h.4)
 
   -- what follows a tree is unambiguous
@@ -169,8 +179,8 @@ module _ (z : Bool) where
   unambiguous_after (comment u) p c last s x h e o st k = unambiguous_after_sign s x (comment_sign s u h.0) k
   unambiguous_after (element n attributes ks) p c last s x h e o st k = go h.2
     where
-      aside : is_set_aside n ≡ false
-      aside = not-true (is_set_aside n) (and_parts (not (is_set_aside n)) (is_simple ks) o).0
+      spelled : may_be_implied n ks ≡ false
+      spelled = (simple_parts n attributes ks o).1
 
       go : Inside (project z) (p ∷ c) last n attributes ks s → IsUnambiguous x
       go (inl w) =
@@ -183,5 +193,5 @@ module _ (z : Bool) where
           (λ v. let m = rw v at w.5 in
           unambiguous_after_sign s x (subst EndsInSign (sym w.3)
           (sign_before w.0 (w.1 ++ w.2) (sign_before w.1 w.2 (end_sign w.2 n m.1)))) k)
-      go (inr w) = absurd (no_tbody n aside w.3)
+      go (inr w) = absurd (not_implied n ks spelled w.3 w.5)
   unambiguous_after _ p c last s x h e o st k = absurd h

@@ -9,7 +9,7 @@ use Rattle.htmd_html5_state.specs.State.{StateValue}
 use Rattle.htmd_html5.specs.Feeding.{feed, feed_text, is_text_mode, with_nothing_skipped, without_line_feed}
 use Rattle.htmd_law_html5.specs.StrictTokens.{content_after, after_feed}
 use Rattle.htmd_law_html5.proofs.StrictOpen.{stands_html}
-use Rattle.htmd_law_html5.proofs.StrictRules.{IsInBody}
+use Rattle.htmd_law_html5.proofs.StrictRules.{InContext}
 
 module _ (z : Bool) where
   -- from one state to another these tokens are fed, each outside foreign content, and after each the state tells the
@@ -36,7 +36,7 @@ module _ (z : Bool) where
       one x i (ap (λ (y : StateValue). y.content) f ∙ e) (subst (λ y. Through y xs last) (sym f) r)
 
   pub one_fed : (p : List ℕ) (c : List (List ℕ)) (x : TokenValue) (s new : StateValue) (xs : List TokenValue)
-      (last : StateValue) → IsInBody (p ∷ c) s → new.content ≡ content_after z Normal x → feed x s ≡ new
+      (last : StateValue) → InContext (p ∷ c) s → new.content ≡ content_after z Normal x → feed x s ≡ new
       → Through new xs last → Through s (x ∷ xs) last
   one_fed p c x s new xs last h e f r =
       with_fed x s new xs last (stands_html s.nodes (p ∷ c) s.stack h.stands)
@@ -58,7 +58,7 @@ module _ (z : Bool) where
   abbrev skips : StateValue → StateValue
   skips s = record s { skips_line_feed = true }
 
-  module _ (p : List ℕ) (c : List (List ℕ)) (s : StateValue) (h : IsInBody (p ∷ c) s) where
+  module _ (p : List ℕ) (c : List (List ℕ)) (s : StateValue) (h : InContext (p ∷ c) s) where
     html_there : current_is_html s.stack ≡ true
     html_there = stands_html s.nodes (p ∷ c) s.stack h.stands
 

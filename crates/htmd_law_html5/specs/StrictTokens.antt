@@ -10,7 +10,8 @@ use Rattle.htmd_lexical.specs.Characters.{line_feed}
 use Rattle.htmd_grammar.specs.RawContent.{drops_line_feed}
 use Rattle.htmd_grammar.specs.Rules.{project}
 use Rattle.htmd_values.specs.Serialisation.{is_void}
-use Rattle.htmd_grammar.specs.Grammar.{reads}
+use Rattle.htmd_grammar.specs.Grammar.{begins_with_row, reads}
+use Rattle.htmd_grammar.specs.Nesting.{is_tbody}
 use Rattle.htmd_grammar.specs.HtmlDocuments.{below_body}
 use Rattle.htmd_html5_tokens.specs.Tokens.{TagValue, TokenValue, start_tag, end_tag, text, comment, Read}
 use Rattle.htmd_html5_tokens.specs.NextToken.{next_token}
@@ -99,13 +100,18 @@ abbrev mutual
 
 -- ---- elements that are set aside
 
--- a `textarea` holds only text and drops a line feed; a script ends by rules of its own; a `tbody` may have no tags
+-- a `textarea` holds only text and drops a line feed; a script ends by rules of its own
 abbrev pub is_set_aside : List ℕ → Bool
-is_set_aside n = is_among (codes "textarea" ∷ codes "script" ∷ codes "tbody" ∷ []) n
+is_set_aside n = is_among (codes "textarea" ∷ codes "script" ∷ []) n
+
+-- a `tbody` that begins with a row may have no tags
+abbrev pub may_be_implied : List ℕ → ValueForest → Bool
+may_be_implied n children = is_tbody n && begins_with_row children
 
 abbrev mutual
   pub is_simple_tree : ValueTree → Bool
-  is_simple_tree (trees.element n attributes children) = not (is_set_aside n) && is_simple children
+  is_simple_tree (trees.element n attributes children) =
+      not (is_set_aside n) && not (may_be_implied n children) && is_simple children
   is_simple_tree _ = true
 
   -- the trees hold no such element

@@ -6,7 +6,8 @@ use Rattle.htmd_values.specs.ValueTrees.{ValueTree, ValueForest, none, more, doc
 use Rattle.htmd_lexical.specs.CharacterClasses.{is_among}
 use Rattle.htmd_grammar.specs.Rules.{project}
 use Rattle.htmd_values.specs.Serialisation.{is_void}
-use Rattle.htmd_grammar.specs.Grammar.{reads}
+use Rattle.htmd_grammar.specs.Grammar.{begins_with_row, reads}
+use Rattle.htmd_grammar.specs.Nesting.{is_tbody}
 use Rattle.htmd_lexical.specs.ByteOrderMarks.{behind_mark}
 use Rattle.htmd_grammar.specs.HtmlDocuments.{below_body, skeleton}
 use Rattle.htmd_nodes.specs.Layout.{document_items}
@@ -57,11 +58,20 @@ abbrev pub text_names : List (List ℕ)
 text_names =
     codes "iframe" ∷ codes "noembed" ∷ codes "noframes" ∷ codes "style" ∷ codes "title" ∷ codes "xmp" ∷ []
 
+-- tables and their parts, but for `caption`, columns, and `tbody`
+abbrev pub table_names : List (List ℕ)
+table_names =
+    codes "table" ∷ codes "thead" ∷ codes "tfoot" ∷ codes "tr" ∷ codes "td" ∷ codes "th" ∷ []
+
 -- all void elements but `col`, elements with these names, and `pre`
 abbrev pub is_plain_element : List ℕ → Bool
 is_plain_element n =
     if is_void n then not (is_among (codes "col" ∷ []) n)
-    else is_plain_name n || is_among (codes "pre" ∷ []) n || is_among text_names n
+    else is_plain_name n || is_among (codes "pre" ∷ []) n || is_among text_names n || is_among table_names n
+
+-- a `tbody` that has tags, since without them it would begin with a row
+abbrev pub is_plain_body : List ℕ → ValueForest → Bool
+is_plain_body n children = is_tbody n && not (begins_with_row children)
 
 abbrev mutual
   -- texts, comments, and plain elements with plain trees in them
@@ -70,7 +80,8 @@ abbrev mutual
   is_plain_tree doctype = false
   is_plain_tree (text u) = true
   is_plain_tree (comment u) = true
-  is_plain_tree (element n attributes children) = is_plain_element n && are_plain children
+  is_plain_tree (element n attributes children) =
+      (is_plain_element n || is_plain_body n children) && are_plain children
 
   pub are_plain : ValueForest → Bool
   are_plain none = true
