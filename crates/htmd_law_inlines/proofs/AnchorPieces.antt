@@ -7,7 +7,8 @@ use Rattle.std.proofs.lemmas.Bool.{and_parts, not-true, ltb-true}
 use Rattle.std.proofs.lemmas.Grind.{flat_map-append}
 use Rattle.std.proofs.lemmas.List.{append_assoc, append-nil}
 use Rattle.std.proofs.lemmas.Str.{IsUtf8-append}
-use Rattle.htmd_document.specs.Tags.{in_value, in_value_char, escaped_value, anchor_tag, end_of_anchor, abbreviation_tag}
+use Rattle.htmd_document.specs.Tags.{in_value, in_value_char, escaped_value, anchor_tag, end_of_anchor}
+use Rattle.htmd_document.specs.Tags.{abbreviation_tag}
 use Rattle.htmd_document.specs.Tags as html
 use Rattle.htmd_document.proofs.TagsLemmas.{encoded}
 use Rattle.htmd_commonmark_reading.specs.Characters.{one_more}
@@ -19,6 +20,7 @@ use Rattle.htmd_law_inlines.proofs.Pieces.{IsRead, both_read, pushed}
 use Rattle.htmd_law_inlines.proofs.OpenRuns.{RowFormat}
 use Rattle.htmd_law_inlines.proofs.Nested.{anywhere}
 use Rattle.htmd_law_inlines.proofs.LeafPieces.{IsShown}
+use Rattle.htmd_law_inlines.proofs.PlainPieces.{tag_plain}
 use Rattle.htmd_law_inlines.proofs.SoundPieces.{EndsIn, then_end}
 use Rattle.htmd_law_inlines.proofs.SeenPieces.{anchor_seen}
 use Rattle.htmd_law_inlines.proofs.TagPieces.{IsTag, tag_read}
@@ -55,15 +57,17 @@ closes_anchor : (refs : References) (in_link : Bool) (before ks : List ℕ)
     → IsRead refs in_link before end_of_anchor ks (raw end_of_anchor no_inlines)
 closes_anchor refs in_link before ks = tag_read refs in_link before (codes "/a>") ks (λ ks. refl)
 
-pub anchor_shown : (around : List RowFormat) (refs : References) (in_link : Bool) (before ks id : List ℕ)
-    → IsShown around refs in_link before (html.anchor id) ks (raw (anchor_tag id) (raw end_of_anchor no_inlines))
-anchor_shown around refs in_link before ks id = record {
+pub anchor_shown : (may : Bool) (around : List RowFormat) (refs : References) (in_link : Bool) (before ks id : List ℕ)
+    → IsShown may around refs in_link before (html.anchor id) ks (raw (anchor_tag id) (raw end_of_anchor no_inlines))
+anchor_shown may around refs in_link before ks id = record {
   raw_inlines = raw (anchor_tag id) (raw end_of_anchor no_inlines);
   reads = anywhere around refs in_link before (html.anchor id) ks (raw (anchor_tag id) (raw end_of_anchor no_inlines))
       (both_read refs in_link before (anchor_tag id) end_of_anchor ks (raw (anchor_tag id) no_inlines)
       (raw end_of_anchor no_inlines) (opens_anchor refs in_link before id (end_of_anchor ++ ks))
       (closes_anchor refs in_link (pushed (anchor_tag id) before) ks));
   shows = anchor_seen id;
+  plain = tag_plain may (anchor_tag id) (raw end_of_anchor no_inlines) refl
+      (tag_plain may end_of_anchor no_inlines refl refl);
 }
 
 -- ---- their text

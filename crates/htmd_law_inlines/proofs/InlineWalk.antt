@@ -20,7 +20,7 @@ use Rattle.htmd_document.specs.Documents.{Inlines, no_inlines, inline}
 use Rattle.htmd_document.specs.Tags as html
 use Rattle.htmd_commonmark.specs.declared.line.Line.{Line}
 use Rattle.htmd_commonmark.specs.declared.inline_ends.Following.{Following}
-use Rattle.htmd_commonmark.specs.WrittenText.{Written, wrote}
+use Rattle.htmd_commonmark.specs.WrittenText.{is_one_line, Written, wrote}
 use Rattle.htmd_commonmark.specs.TextEscapes.{may_be_escaped}
 use Rattle.htmd_commonmark.specs.Marks.{Mark, mark_for}
 use Rattle.htmd_commonmark.specs.InlineEnds.{first_of_all, follows}
@@ -49,6 +49,8 @@ use Rattle.htmd_law_inlines.proofs.NumberPieces.{bytes_same, closes_by_number, d
 use Rattle.htmd_law_inlines.proofs.SpanPieces.{autolink_read}
 use Rattle.htmd_law_inlines.proofs.SeenPieces.{AreSeen, none_seen, both_seen, letters_seen, format_seen, link_seen}
 use Rattle.htmd_law_inlines.proofs.SeenPieces.{meant, meant_inline}
+use Rattle.htmd_law_inlines.specs.PlainReadings.{is_read_plainly}
+use Rattle.htmd_law_inlines.proofs.PlainPieces.{joined_plain, letters_plain, content_plain, tag_plain}
 use Rattle.htmd_law_inlines.proofs.LeafPieces.{IsShown, spaced_before, code_shown, break_shown, image_shown}
 use Rattle.htmd_law_inlines.proofs.WalkPieces.{before_known}
 use Rattle.htmd_law_inlines.proofs.MarkPieces.{IsRowMark, AreTagMarks, in_tag, mark_cases}
@@ -79,7 +81,7 @@ pub record AreShown
   where
     pub text : List ℕ
     pub is : after.text ≡ w.text ++ text
-    pub shown : IsShown rows refs line.in_link (pushed w.text []) text ks (meant xs)
+    pub shown : IsShown (is_one_line line.kind) rows refs line.in_link (pushed w.text []) text ks (meant xs)
     pub begins : BeginAll line w.text xs (text ++ ks)
 
 abbrev pub none_shown : (rows : List RowFormat) (refs : References) (line : Line) (w : Written) (ks : List ℕ)
@@ -91,6 +93,7 @@ none_shown rows refs line w ks = record {
     raw_inlines = markup.no_inlines;
     reads = nothing_in rows refs line.in_link (pushed w.text []) ks;
     shows = none_seen;
+    plain = refl;
   };
   begins = tt;
 }
@@ -129,6 +132,8 @@ both_shown rows refs line w next after x rest ks r p =
         shows = subst (AreSeen (markup.joined p.shown.raw_inlines r.shown.raw_inlines)) (meant_first x (meant rest))
             (both_seen p.shown.raw_inlines (meant_inline x markup.no_inlines) r.shown.raw_inlines (meant rest)
             p.shown.shows r.shown.shows);
+        plain = joined_plain (is_one_line line.kind) p.shown.raw_inlines r.shown.raw_inlines p.shown.plain
+            r.shown.plain;
       };
       begins = subst (Begins line w.text x) (sym (append_assoc p.text r.text ks)) p.begins;
     }
@@ -251,6 +256,7 @@ text_shown rows refs line w f s ks n h d =
             (text_read refs place s v.marked before ks v.marks t.utf8 (spaced_before s ks t.plain d.no_end) next
             (before_known w.text h.utf8));
         shows = letters_seen s;
+        plain = letters_plain (is_one_line line.kind) s;
       };
       begins = text_begins line w.text f.after s ks v.marked v.marks t next.ends;
     }
@@ -311,6 +317,7 @@ row_shown rows refs line w f g content ks r h a c u v o e =
         shows = subst (λ q. AreSeen (markup.formatted (row_format r.row) c.shown.raw_inlines markup.no_inlines)
             (markup.formatted q (meant content) markup.no_inlines)) r.means
             (format_seen (row_format r.row) c.shown.raw_inlines (meant content) c.shown.shows);
+        plain = content_plain (is_read_plainly (is_one_line line.kind) c.shown.raw_inlines) true c.shown.plain refl;
       };
       begins = subst (Begins line w.text (formatted g content)) (sym (append_assoc row (c.text ++ row) ks))
           (row_begins line w f g content r.row r.sign ((c.text ++ row) ++ ks) r.is_sign
@@ -345,6 +352,9 @@ tags_shown rows refs line w g m content ks t c =
             (anywhere rows refs line.in_link (pushed c.text (pushed start before)) stop ks stop_raw
             (t.closes refs line.in_link (pushed c.text (pushed start before)) ks)));
         shows = t.sees content_raw (meant content) c.shown.shows;
+        plain = tag_plain (is_one_line line.kind) start (markup.joined content_raw stop_raw) t.opening_stays
+            (joined_plain (is_one_line line.kind) content_raw stop_raw c.shown.plain
+            (tag_plain (is_one_line line.kind) stop markup.no_inlines t.closing_stays refl));
       };
       begins = tags_begin line w.text g content (((t.opening ++ codes ">") ++ (c.text ++ stop)) ++ ks);
     }
@@ -397,6 +407,8 @@ autolink_shown rows refs line w a None content ks h =
         shows = subst (λ xs. AreSeen (markup.link a None letters markup.no_inlines)
             (markup.link a None (meant xs) markup.no_inlines)) (sym alone)
             (link_seen a None letters letters (letters_seen a));
+        plain = content_plain (is_read_plainly (is_one_line line.kind) letters) true
+            (letters_plain (is_one_line line.kind) a) refl;
       };
       begins = autolink_begins line w.text a None content ((a ++ codes ">") ++ ks);
     }
@@ -424,6 +436,7 @@ link_shown rows refs line w a t content ks l v c =
             (subst (λ u. IsReadIn [] refs true u c.text (tail ++ ks) c.shown.raw_inlines)
             (pushed_append w.text (codes "[") []) c.shown.reads));
         shows = link_seen a t c.shown.raw_inlines (meant content) c.shown.shows;
+        plain = content_plain (is_read_plainly (is_one_line line.kind) c.shown.raw_inlines) true c.shown.plain refl;
       };
       begins = link_begins line w.text a t content ((c.text ++ tail) ++ ks);
     }
@@ -551,14 +564,14 @@ mutual
         let q = and_parts (is_attribute b && is_title t) (is_line s) n in
         let r = and_parts (is_attribute b) (is_title t) q.0 in
         let l = and_parts (is_utf8 s) (list_all is_line_byte s) q.1 in
-        image_shown rows refs line.in_link (pushed w.text []) ks b t s
+        image_shown (is_one_line line.kind) rows refs line.in_link (pushed w.text []) ks b t s
         (and_parts (is_utf8 b) (list_all is_kept b) r.0).1 (IsUtf8-from_is_utf8 s l.0) l.1;
     begins = image_begins line w.text b t s _;
   }
   walk_one rows formats refs all finds line w f (anchor id) ks n a h p d = record {
     text = html.anchor id;
     is = refl;
-    shown = anchor_shown rows refs line.in_link (pushed w.text []) ks id;
+    shown = anchor_shown (is_one_line line.kind) rows refs line.in_link (pushed w.text []) ks id;
     begins = anchor_begins line w.text id _;
   }
   walk_one rows formats refs all finds line w f line_break ks n a h p d = record {

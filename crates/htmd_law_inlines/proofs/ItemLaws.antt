@@ -14,7 +14,7 @@ use Rattle.htmd_document.specs.Documents.{anchor}
 use Rattle.htmd_document.specs.Documents.{Inlines, no_inlines, inline}
 use Rattle.htmd_commonmark.specs.declared.line.Line.{Line}
 use Rattle.htmd_commonmark.specs.declared.inline_ends.Following.{Following}
-use Rattle.htmd_commonmark.specs.WrittenText.{Written}
+use Rattle.htmd_commonmark.specs.WrittenText.{is_one_line, Written}
 use Rattle.htmd_commonmark.specs.InlineEnds.{follows}
 use Rattle.htmd_commonmark.specs.InlineMarkdown.{written, written_line, with_inline, written_task, place_of}
 use Rattle.htmd_commonmark_reading.specs.Characters.{is_white, past_blanks}
@@ -26,7 +26,10 @@ use Rattle.htmd_document.specs.NormalInlines.{are_whole, are_trimmed, is_normal_
 use Rattle.htmd_document.specs.NormalInlines.{is_line_byte, is_text, first_passes, last_passes, begins_with_space}
 use Rattle.htmd_document.specs.NormalInlines.{ends_with_space, is_break, is_normal_item, ends_in_space}
 use Rattle.htmd_document.specs.NormalInlines.{has_double_space}
-use Rattle.htmd_law_inlines.specs.ReadBack.{ItemsReadBack, references_of, are_numbered, AreFew, seen_document}
+use Rattle.htmd_law_inlines.specs.PlainReadings.{is_read_plainly}
+use Rattle.htmd_law_inlines.proofs.PlainPieces.{joined_plain, letters_plain}
+use Rattle.htmd_law_inlines.specs.ReadBack.{ItemsReadBack, ItemsArePlain, references_of, are_numbered, AreFew}
+use Rattle.htmd_law_inlines.specs.ReadBack.{seen_document}
 use Rattle.htmd_law_inlines.proofs.Pieces.{joined_none}
 use Rattle.htmd_law_inlines.proofs.TextPieces.{test, differs}
 use Rattle.htmd_law_inlines.proofs.TagPieces.{begins_well}
@@ -45,7 +48,7 @@ use Rattle.htmd_law_inlines.proofs.NextPieces.{is_format}
 use Rattle.htmd_law_inlines.proofs.LastPieces.{ends_one}
 use Rattle.htmd_law_inlines.proofs.InlineWalk.{AreShown, walk, none_shown, letters_joined, IsPrefix, Finds}
 use Rattle.htmd_law_inlines.proofs.DefinitionPieces.{numbered_all, numbers_found}
-use Rattle.htmd_law_inlines.proofs.InlineLaws.{inlines_read_back}
+use Rattle.htmd_law_inlines.proofs.InlineLaws.{inlines_read_back, inlines_are_plain}
 use Rattle.htmd_law_inlines.proofs.BoxPieces.{line_no_task}
 use Rattle.htmd_law_inlines.proofs.AlikePieces.{IsSame, AreAlike, IsAlikeWritten, alike_all, alike_one, then_alike}
 use Rattle.htmd_law_inlines.proofs.ItemPieces.{IsBox, box, a_box, same_behind, utf8_firm, box_alike, behind_space}
@@ -244,14 +247,21 @@ bare_behind refs line v [] (inline y rest) marked e t m n c =
     let whole : v.text ++ c.text ≡ c.text ++ [] = ap (λ l. l ++ c.text) e ∙ sym (append-nil c.text) in
     ap (behind_run is_white) whole ∙ bare ∙ sym whole
 
-task_read_back : (line : Line) (before after : List (List ℕ)) (d : Bool) (s : List ℕ) (more : Inlines)
+-- what a box and the text behind it are read as
+record IsTaskRead (line : Line) (before after : List (List ℕ)) (d : Bool) (s : List ℕ)
+    (more : Inlines) : Type 0 where
+  raw : markup.Inlines
+  read : item_text (references_of line before after (inline (task d) (inline (text (32 ∷ s)) more)))
+      (written_line line before (inline (task d) (inline (text (32 ∷ s)) more))).text ≡ markup.task d raw
+  shows : AreSeen raw (markup.letters s (meant more))
+  plain : is_read_plainly (is_one_line line.kind) raw ≡ true
+
+task_read : (line : Line) (before after : List (List ℕ)) (d : Bool) (s : List ℕ) (more : Inlines)
     → line.in_link ≡ false → are_numbered 1 before ≡ true
     → is_normal_item (inline (task d) (inline (text (32 ∷ s)) more)) ≡ true
     → AreFew (written_line line before (inline (task d) (inline (text (32 ∷ s)) more))).definitions
-    → seen_document (item_text (references_of line before after (inline (task d) (inline (text (32 ∷ s)) more)))
-    (written_line line before (inline (task d) (inline (text (32 ∷ s)) more))).text)
-    ≡ Some (inline (task d) (inline (text (32 ∷ s)) more))
-task_read_back line before after d s more l db n few =
+    → IsTaskRead line before after d s more
+task_read line before after d s more l db n few =
     let rest = inline (text (32 ∷ s)) more in
     let xs = inline (task d) rest in
     let n1 = and_parts (first_passes begins_with_space rest && not (last_passes ends_with_space rest)
@@ -298,20 +308,51 @@ task_read_back line before after d s more l db n few =
     subst (AreSeen raw) (letters_joined s (meant more))
     (both_seen (markup.letters s markup.no_inlines) (markup.letters s markup.no_inlines) c.shown.shown.raw_inlines
     (meant more) (letters_seen s) c.shown.shown.shows) in
-    ap (λ u. seen_document (item_text refs u)) whole ∙ ap seen_document (box_read refs d (start ++ ks))
-    ∙ ap (λ u. seen_document (markup.task d (inlines refs u)))
-    (bare_behind refs line v s more p.marked refl t m2.1 (not-true (last_passes ends_with_space rest) n3.1) c.shown)
-    ∙ ap (λ u. seen_document (markup.task d u)) (reads_whole refs (start ++ ks) raw reads)
-    ∙ ap document_inlines (task_seen d raw (markup.letters s (meant more)) shows)
-    ∙ ap (with_first (task d))
-    (text_document 32 s (meant more) more (document_of false [] more m1.1) (no_text_meets (32 ∷ s) more m2.1))
+    record {
+      raw = raw;
+      read =
+          ap (item_text refs) whole ∙ box_read refs d (start ++ ks)
+          ∙ ap (λ u. markup.task d (inlines refs u))
+          (bare_behind refs line v s more p.marked refl t m2.1 (not-true (last_passes ends_with_space rest) n3.1)
+          c.shown)
+          ∙ ap (markup.task d) (reads_whole refs (start ++ ks) raw reads);
+      shows = shows;
+      plain = joined_plain (is_one_line line.kind) (markup.letters s markup.no_inlines) c.shown.shown.raw_inlines
+          (letters_plain (is_one_line line.kind) s) c.shown.shown.plain;
+    }
+
+-- an item's first paragraph is read back, and plainly
+abbrev IsBack : Line → List (List ℕ) → List (List ℕ) → Inlines → Type 0
+IsBack line before after xs = is_normal_item xs ≡ true
+    → AreFew (written_line line before xs).definitions
+    → (seen_document (item_text (references_of line before after xs) (written_line line before xs).text) ≡ Some xs)
+    × (is_read_plainly (is_one_line line.kind)
+    (item_text (references_of line before after xs) (written_line line before xs).text) ≡ true)
+
+task_back : (line : Line) (before after : List (List ℕ)) (d : Bool) (s : List ℕ) (more : Inlines)
+    → line.in_link ≡ false → are_numbered 1 before ≡ true
+    → IsBack line before after (inline (task d) (inline (text (32 ∷ s)) more))
+task_back line before after d s more l db n few =
+    let r = task_read line before after d s more l db n few in
+    let rest = inline (text (32 ∷ s)) more in
+    let n1 = and_parts (first_passes begins_with_space rest && not (last_passes ends_with_space rest)
+    && not (last_passes is_break rest)) (are_normal false [] rest) n in
+    let m1 = and_parts (is_text (32 ∷ s) && meets (text (32 ∷ s)) more) (are_normal false [] more) n1.1 in
+    let m2 = and_parts (is_text (32 ∷ s)) (meets (text (32 ∷ s)) more) m1.0 in (
+      ap seen_document r.read ∙ ap document_inlines (task_seen d r.raw (markup.letters s (meant more)) r.shows)
+          ∙ ap (with_first (task d))
+          (text_document 32 s (meant more) more (document_of false [] more m1.1) (no_text_meets (32 ∷ s) more m2.1)),
+      subst (λ u. is_read_plainly (is_one_line line.kind) u ≡ true) (sym r.read) r.plain,
+    )
 
 -- ---- items
 
 other_item : (line : Line) (before after : List (List ℕ)) (xs : Inlines) → line.in_link ≡ false
     → are_numbered 1 before ≡ true → is_normal_line xs ≡ true
     → AreFew (written_line line before xs).definitions
-    → seen_document (item_text (references_of line before after xs) (written_line line before xs).text) ≡ Some xs
+    → (seen_document (item_text (references_of line before after xs) (written_line line before xs).text) ≡ Some xs)
+    × (is_read_plainly (is_one_line line.kind)
+    (item_text (references_of line before after xs) (written_line line before xs).text) ≡ true)
 other_item line before after xs l db n few =
     let p = and_parts (are_whole xs) (are_normal false [] xs) n in
     let q = and_parts (are_trimmed xs && not (first_passes is_break xs)) (not (last_passes is_break xs)) p.0 in
@@ -320,14 +361,13 @@ other_item line before after xs l db n few =
     let refs = references_of line before after xs in
     let no_task = line_no_task line before xs (subst (λ b. are_normal b [] xs ≡ true) (sym l) p.1)
     (not-true (first_passes is_break xs) r.1) in
-    ap (λ b. seen_document (if b then markup.task (is_checked s) (inlines refs (behind_run is_white (drop 3 s)))
-    else inlines refs s)) no_task
-    ∙ inlines_read_back line before after xs l db n few
-
-abbrev IsBack : Line → List (List ℕ) → List (List ℕ) → Inlines → Type 0
-IsBack line before after xs = is_normal_item xs ≡ true
-    → AreFew (written_line line before xs).definitions
-    → seen_document (item_text (references_of line before after xs) (written_line line before xs).text) ≡ Some xs
+    let same : item_text refs s ≡ inlines refs s =
+    ap (λ b. if b then markup.task (is_checked s) (inlines refs (behind_run is_white (drop 3 s))) else inlines refs s)
+    no_task in (
+      ap seen_document same ∙ inlines_read_back line before after xs l db n few,
+      subst (λ u. is_read_plainly (is_one_line line.kind) u ≡ true) (sym same)
+          (inlines_are_plain line before after xs l db n few),
+    )
 
 -- a space stands behind a task
 space_task : (line : Line) (before after : List (List ℕ)) (d : Bool) (c : ℕ) (s : List ℕ) (more : Inlines)
@@ -341,33 +381,40 @@ space_task line before after d c s more l db n few =
     (not (last_passes is_break rest)) n1.0 in
     let n3 = and_parts (first_passes begins_with_space rest) (not (last_passes ends_with_space rest)) n2.0 in
     subst (λ x. IsBack line before after (inline (task d) (inline (text (x ∷ s)) more))) (sym (eqb-true c 32 n3.0))
-    (λ n few. task_read_back line before after d s more l db n few) n few
+    (λ n few. task_back line before after d s more l db n few) n few
+
+items_back : (line : Line) (before after : List (List ℕ)) (xs : Inlines) → line.in_link ≡ false
+    → are_numbered 1 before ≡ true → IsBack line before after xs
+items_back line before after (inline (task d) no_inlines) l db n few = absurd (cc)
+items_back line before after (inline (task d) (inline (text []) more)) l db n few = absurd (cc)
+items_back line before after (inline (task d) (inline (text (c ∷ s)) more)) l db n few =
+    space_task line before after d c s more l db n few
+items_back line before after (inline (task d) (inline (code s) more)) l db n few = absurd (cc)
+items_back line before after (inline (task d) (inline (formatted f content) more)) l db n few = absurd (cc)
+items_back line before after (inline (task d) (inline (link a t content) more)) l db n few = absurd (cc)
+items_back line before after (inline (task d) (inline (image a t s) more)) l db n few = absurd (cc)
+items_back line before after (inline (task d) (inline (anchor i) more)) l db n few = absurd (cc)
+items_back line before after (inline (task d) (inline line_break more)) l db n few = absurd (cc)
+items_back line before after (inline (task d) (inline (task e) more)) l db n few = absurd (cc)
+items_back line before after no_inlines l db n few = other_item line before after no_inlines l db n few
+items_back line before after (inline (text s) rest) l db n few =
+    other_item line before after (inline (text s) rest) l db n few
+items_back line before after (inline (code s) rest) l db n few =
+    other_item line before after (inline (code s) rest) l db n few
+items_back line before after (inline (formatted f content) rest) l db n few =
+    other_item line before after (inline (formatted f content) rest) l db n few
+items_back line before after (inline (link a t content) rest) l db n few =
+    other_item line before after (inline (link a t content) rest) l db n few
+items_back line before after (inline (image a t s) rest) l db n few =
+    other_item line before after (inline (image a t s) rest) l db n few
+items_back line before after (inline (anchor id) rest) l db n few =
+    other_item line before after (inline (anchor id) rest) l db n few
+items_back line before after (inline line_break rest) l db n few =
+    other_item line before after (inline line_break rest) l db n few
 
 -- the paragraph that an item begins with is read back, in each place
 pub items_read_back : ItemsReadBack
-items_read_back line before after (inline (task d) no_inlines) l db n few = absurd (cc)
-items_read_back line before after (inline (task d) (inline (text []) more)) l db n few = absurd (cc)
-items_read_back line before after (inline (task d) (inline (text (c ∷ s)) more)) l db n few =
-    space_task line before after d c s more l db n few
-items_read_back line before after (inline (task d) (inline (code s) more)) l db n few = absurd (cc)
-items_read_back line before after (inline (task d) (inline (formatted f content) more)) l db n few = absurd (cc)
-items_read_back line before after (inline (task d) (inline (link a t content) more)) l db n few = absurd (cc)
-items_read_back line before after (inline (task d) (inline (image a t s) more)) l db n few = absurd (cc)
-items_read_back line before after (inline (task d) (inline (anchor i) more)) l db n few = absurd (cc)
-items_read_back line before after (inline (task d) (inline line_break more)) l db n few = absurd (cc)
-items_read_back line before after (inline (task d) (inline (task e) more)) l db n few = absurd (cc)
-items_read_back line before after no_inlines l db n few = other_item line before after no_inlines l db n few
-items_read_back line before after (inline (text s) rest) l db n few =
-    other_item line before after (inline (text s) rest) l db n few
-items_read_back line before after (inline (code s) rest) l db n few =
-    other_item line before after (inline (code s) rest) l db n few
-items_read_back line before after (inline (formatted f content) rest) l db n few =
-    other_item line before after (inline (formatted f content) rest) l db n few
-items_read_back line before after (inline (link a t content) rest) l db n few =
-    other_item line before after (inline (link a t content) rest) l db n few
-items_read_back line before after (inline (image a t s) rest) l db n few =
-    other_item line before after (inline (image a t s) rest) l db n few
-items_read_back line before after (inline (anchor id) rest) l db n few =
-    other_item line before after (inline (anchor id) rest) l db n few
-items_read_back line before after (inline line_break rest) l db n few =
-    other_item line before after (inline line_break rest) l db n few
+items_read_back line before after xs l db n few = (items_back line before after xs l db n few).0
+
+pub items_are_plain : ItemsArePlain
+items_are_plain line before after xs l db n few = (items_back line before after xs l db n few).1

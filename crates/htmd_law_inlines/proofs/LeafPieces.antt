@@ -32,14 +32,18 @@ use Rattle.htmd_law_inlines.proofs.Nested.{IsReadIn, anywhere, image_in}
 use Rattle.htmd_law_inlines.proofs.SeenPieces.{AreSeen, code_seen, code_tags_seen, break_seen, break_tag_seen}
 use Rattle.htmd_law_inlines.proofs.SeenPieces.{image_seen}
 use Rattle.htmd_law_inlines.proofs.WalkPieces.{guess_follows}
+use Rattle.htmd_law_inlines.specs.PlainReadings.{is_untagged, is_read_plainly}
+use Rattle.htmd_law_inlines.proofs.PlainPieces.{joined_plain, letters_plain, letters_untagged, content_plain, tag_plain}
 
 -- what a piece is read as, and how that is seen
 pub record IsShown
-    (around : List RowFormat) (refs : References) (in_link : Bool) (before s ks : List ℕ) (zs : Inlines) : Type 0
+    (may : Bool) (around : List RowFormat) (refs : References) (in_link : Bool) (before s ks : List ℕ) (zs : Inlines)
+    : Type 0
   where
     pub raw_inlines : Inlines
     pub reads : IsReadIn around refs in_link before s ks raw_inlines
     pub shows : AreSeen raw_inlines zs
+    pub plain : is_read_plainly may raw_inlines ≡ true
 
 -- a text of one line, before what isn't white space up to a line's end unless no space ends the text
 pub last_space : (c d : ℕ) (s : List ℕ) → ends_in_space (c ∷ d ∷ s) ≡ ends_in_space (d ∷ s)
@@ -104,7 +108,8 @@ pub code_shown : (around : List RowFormat) (line : Line) (refs : References) (be
     (s : List ℕ)
     → IsUtf8 (x ∷ s) → list_all is_line_byte (x ∷ s) ≡ true → (x == 32) ≡ false
     → first_is 96 ks ≡ false
-    → IsShown around refs line.in_link before (written_code line (x ∷ s)) ks (code (x ∷ s) no_inlines)
+    → IsShown (is_one_line line.kind) around refs line.in_link before (written_code line (x ∷ s)) ks
+    (code (x ∷ s) no_inlines)
 code_shown around line refs before ks x s u p sp g =
     test (needs_tags line (x ∷ s))
     (λ e. rw e (record {
@@ -112,11 +117,17 @@ code_shown around line refs before ks x s u p sp g =
           (joined (letters (x ∷ s) no_inlines) (raw (codes "</code>") no_inlines));
       reads = anywhere around refs line.in_link before _ ks _ (tagged_read line refs before ks (x ∷ s) u p);
       shows = code_tags_seen x s;
+      plain = tag_plain (is_one_line line.kind) (codes "<code>") (joined (letters (x ∷ s) no_inlines)
+          (raw (codes "</code>") no_inlines)) refl (joined_plain (is_one_line line.kind)
+          (letters (x ∷ s) no_inlines) (raw (codes "</code>") no_inlines)
+          (letters_plain (is_one_line line.kind) (x ∷ s))
+          (tag_plain (is_one_line line.kind) (codes "</code>") no_inlines refl refl));
     }))
     (λ e. rw e (record {
       raw_inlines = code (x ∷ s) no_inlines;
       reads = anywhere around refs line.in_link before _ ks _ (code_read refs line.in_link before ks x s p sp g);
       shows = code_seen (x ∷ s);
+      plain = refl;
     }))
 
 -- ---- breaks
@@ -128,28 +139,30 @@ styled_break refs in_link before ks Backslash h = breaks_slash refs in_link befo
 
 pub break_shown : (around : List RowFormat) (line : Line) (refs : References) (before ks : List ℕ)
     → begins_well ks ≡ true
-    → IsShown around refs line.in_link before (written_break line) ks (line_break no_inlines)
+    → IsShown (is_one_line line.kind) around refs line.in_link before (written_break line) ks (line_break no_inlines)
 break_shown around line refs before ks h =
     test (is_one_line line.kind)
     (λ e. rw e (record {
       raw_inlines = raw (codes "<br>") no_inlines;
       reads = anywhere around refs line.in_link before (codes "<br>") ks _ (breaks_tag refs line.in_link before ks);
       shows = break_tag_seen;
+      plain = refl;
     }))
     (λ e. rw e (record {
       raw_inlines = line_break no_inlines;
       reads = anywhere around refs line.in_link before _ ks _
           (styled_break refs line.in_link before ks line.br_style h);
       shows = break_seen;
+      plain = refl;
     }))
 
 -- ---- images
 
-pub image_shown : (around : List RowFormat) (refs : References) (in_link : Bool) (before ks a : List ℕ)
+pub image_shown : (may : Bool) (around : List RowFormat) (refs : References) (in_link : Bool) (before ks a : List ℕ)
     (t : Option (List ℕ)) (s : List ℕ) → list_all is_kept a ≡ true → IsUtf8 s → list_all is_line_byte s
     ≡ true
-    → IsShown around refs in_link before (written_image a t s) ks (image a t (letters s no_inlines) no_inlines)
-image_shown around refs in_link before ks a t s h u p =
+    → IsShown may around refs in_link before (written_image a t s) ks (image a t (letters s no_inlines) no_inlines)
+image_shown may around refs in_link before ks a t s h u p =
     let inner = escaped place_of_description s in
     record {
       raw_inlines = image a t (letters s no_inlines) no_inlines;
@@ -160,4 +173,5 @@ image_shown around refs in_link before ks a t s h u p =
           (guess_follows 93 93 _ (refl, refl, λ e. absurd (cc), λ e. absurd (cc)))
           (no_word_mark 91 refl (91 ∷ 33 ∷ before))));
       shows = image_seen a t s;
+      plain = content_plain (is_untagged (letters s no_inlines)) true (letters_untagged s) refl;
     }

@@ -20,6 +20,7 @@ pub mod TextLaws
 pub mod AnchorValues
 pub mod SeenPieces
 pub mod WalkPieces
+pub mod PlainPieces
 pub mod LeafPieces
 pub mod Utf8Pieces
 pub mod Beside

@@ -1,5 +1,6 @@
 -- The mark of a format is a row of signs that fits, or a pair of tags.
 use Rattle.std.proofs.Common.{◌≡◌, ◌∙◌, refl, sym, ap, subst, ℕ, Bool, true, not, List, [], ◌∷◌, ◌++◌, codes, length}
+use Rattle.std.proofs.Common.{false}
 use Rattle.std.specs.Prelude.{◌&&◌}
 use Rattle.std.specs.List.{list_all}
 use Rattle.std.specs.Str.{IsUtf8, is_utf8}
@@ -20,6 +21,7 @@ use Rattle.htmd_commonmark_reading.specs.Markup.{Inlines, no_inlines, formatted,
 use Rattle.htmd_commonmark_reading.specs.Brackets.{References}
 use Rattle.htmd_commonmark_reading.specs.InlineTokens.{angle}
 use Rattle.htmd_commonmark_reading.specs.SeenMarkup.{abbreviation, role_by_title}
+use Rattle.htmd_law_inlines.specs.PlainReadings.{is_break_tag}
 use Rattle.htmd_law_inlines.proofs.Pieces.{IsRead}
 use Rattle.htmd_law_inlines.proofs.TextPieces.{test}
 use Rattle.htmd_law_inlines.proofs.OpenRuns.{RowFormat, row_format, IsSignOf, one, two, tildes}
@@ -58,6 +60,8 @@ pub record AreTagMarks (f : Format) (m : Mark) : Type 0 where
       → AreSeen (raw (in_tag opening) (joined xs (raw (in_tag closing) no_inlines))) (formatted f ys no_inlines)
   pub opening_utf8 : has_title f ≡ true → IsUtf8 (in_tag opening)
   pub closing_utf8 : IsUtf8 (in_tag closing)
+  pub opening_stays : is_break_tag (in_tag opening) ≡ false
+  pub closing_stays : is_break_tag (in_tag closing) ≡ false
 
 em_tags : (m : Mark) → m ≡ tags (codes "<em>") (codes "</em>") → AreTagMarks Emphasis m
 unfolding encode
@@ -70,6 +74,8 @@ em_tags m e = record {
   sees = em_seen;
   opening_utf8 = λ h. (codes "<em>", (refl, refl));
   closing_utf8 = (codes "</em>", (refl, refl));
+  opening_stays = refl;
+  closing_stays = refl;
 }
 
 strong_tags : (m : Mark) → m ≡ tags (codes "<strong>") (codes "</strong>") → AreTagMarks Strong m
@@ -83,6 +89,8 @@ strong_tags m e = record {
   sees = strong_seen;
   opening_utf8 = λ h. (codes "<strong>", (refl, refl));
   closing_utf8 = (codes "</strong>", (refl, refl));
+  opening_stays = refl;
+  closing_stays = refl;
 }
 
 del_tags : (m : Mark) → m ≡ tags (codes "<del>") (codes "</del>") → AreTagMarks Deleted m
@@ -96,6 +104,8 @@ del_tags m e = record {
   sees = del_seen;
   opening_utf8 = λ h. (codes "<del>", (refl, refl));
   closing_utf8 = (codes "</del>", (refl, refl));
+  opening_stays = refl;
+  closing_stays = refl;
 }
 
 -- a tag without attributes, and its end tag
@@ -110,6 +120,8 @@ sup_tags = record {
   sees = plain_seen Superscript (codes "sup") refl refl refl;
   opening_utf8 = λ h. (codes "<sup>", (refl, refl));
   closing_utf8 = (codes "</sup>", (refl, refl));
+  opening_stays = refl;
+  closing_stays = refl;
 }
 
 sub_tags : AreTagMarks Subscript (tags (codes "<sub>") (codes "</sub>"))
@@ -123,6 +135,8 @@ sub_tags = record {
   sees = plain_seen Subscript (codes "sub") refl refl refl;
   opening_utf8 = λ h. (codes "<sub>", (refl, refl));
   closing_utf8 = (codes "</sub>", (refl, refl));
+  opening_stays = refl;
+  closing_stays = refl;
 }
 
 ins_tags : AreTagMarks Inserted (tags (codes "<ins>") (codes "</ins>"))
@@ -136,6 +150,8 @@ ins_tags = record {
   sees = plain_seen Inserted (codes "ins") refl refl refl;
   opening_utf8 = λ h. (codes "<ins>", (refl, refl));
   closing_utf8 = (codes "</ins>", (refl, refl));
+  opening_stays = refl;
+  closing_stays = refl;
 }
 
 u_tags : AreTagMarks Underlined (tags (codes "<u>") (codes "</u>"))
@@ -149,6 +165,8 @@ u_tags = record {
   sees = plain_seen Underlined (codes "u") refl refl refl;
   opening_utf8 = λ h. (codes "<u>", (refl, refl));
   closing_utf8 = (codes "</u>", (refl, refl));
+  opening_stays = refl;
+  closing_stays = refl;
 }
 
 mark_tags : AreTagMarks Marked (tags (codes "<mark>") (codes "</mark>"))
@@ -162,6 +180,8 @@ mark_tags = record {
   sees = plain_seen Marked (codes "mark") refl refl refl;
   opening_utf8 = λ h. (codes "<mark>", (refl, refl));
   closing_utf8 = (codes "</mark>", (refl, refl));
+  opening_stays = refl;
+  closing_stays = refl;
 }
 
 small_tags : AreTagMarks Small (tags (codes "<small>") (codes "</small>"))
@@ -175,6 +195,8 @@ small_tags = record {
   sees = plain_seen Small (codes "small") refl refl refl;
   opening_utf8 = λ h. (codes "<small>", (refl, refl));
   closing_utf8 = (codes "</small>", (refl, refl));
+  opening_stays = refl;
+  closing_stays = refl;
 }
 
 kbd_tags : AreTagMarks Keyboard (tags (codes "<kbd>") (codes "</kbd>"))
@@ -188,6 +210,8 @@ kbd_tags = record {
   sees = plain_seen Keyboard (codes "kbd") refl refl refl;
   opening_utf8 = λ h. (codes "<kbd>", (refl, refl));
   closing_utf8 = (codes "</kbd>", (refl, refl));
+  opening_stays = refl;
+  closing_stays = refl;
 }
 
 -- the tag of an abbreviation, which has a title
@@ -233,6 +257,8 @@ abbr_tags title = record {
   sees = title_seen title;
   opening_utf8 = λ h. subst IsUtf8 (titled_is title) (abbreviation_utf8 title (titled_utf8 title h));
   closing_utf8 = (codes "</abbr>", (refl, refl));
+  opening_stays = refl;
+  closing_stays = refl;
 }
   where
     titled_utf8 : (title : List ℕ) → has_title (Abbreviation title) ≡ true → IsUtf8 title

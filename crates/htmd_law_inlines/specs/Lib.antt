@@ -1,2 +1,3 @@
 -- The inlines of documents: those that are normal, and that they are read back.
+pub mod PlainReadings
 pub mod ReadBack

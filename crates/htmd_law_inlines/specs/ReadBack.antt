@@ -12,6 +12,8 @@ use Rattle.htmd_commonmark_reading.specs.Lists.{item_text}
 use Rattle.htmd_commonmark_reading.specs.Markup as markup
 use Rattle.htmd_commonmark_reading.specs.SeenMarkup.{seen_inlines, document_inlines}
 use Rattle.htmd_document.specs.NormalInlines.{is_normal_line, is_normal_item}
+use Rattle.htmd_commonmark.specs.WrittenText.{is_one_line}
+use Rattle.htmd_law_inlines.specs.PlainReadings.{is_read_plainly}
 
 -- the inlines of a document that a reader sees
 abbrev pub seen_document : markup.Inlines → Option Inlines
@@ -66,3 +68,19 @@ TextsReadBack = (line : Line) (before : List (List ℕ)) (refs : References) (s 
     → is_normal_line (inline (text s) no_inlines) ≡ true
     → seen_document (inlines refs (written_line line before (inline (text s) no_inlines)).text)
     ≡ Some (inline (text s) no_inlines)
+
+-- And what is read has text alone in descriptions of images, and a break is a tag only in a line that has to be one.
+abbrev pub InlinesArePlain : Type 0
+InlinesArePlain = (line : Line) (before after : List (List ℕ)) (xs : Inlines) → line.in_link ≡ false
+    → are_numbered 1 before ≡ true → is_normal_line xs ≡ true
+    → AreFew (written_line line before xs).definitions
+    → is_read_plainly (is_one_line line.kind)
+    (inlines (references_of line before after xs) (written_line line before xs).text) ≡ true
+
+-- the same of the paragraph that an item begins with
+abbrev pub ItemsArePlain : Type 0
+ItemsArePlain = (line : Line) (before after : List (List ℕ)) (xs : Inlines) → line.in_link ≡ false
+    → are_numbered 1 before ≡ true → is_normal_item xs ≡ true
+    → AreFew (written_line line before xs).definitions
+    → is_read_plainly (is_one_line line.kind)
+    (item_text (references_of line before after xs) (written_line line before xs).text) ≡ true

@@ -2,7 +2,8 @@
 //! a function that does nothing.
 #![tactic(auto)]
 
-ghost use Rattle.htmd_law_inlines.specs.ReadBack.{InlinesReadBack, ItemsReadBack, TextsReadBack};
+ghost use Rattle.htmd_law_inlines.specs.ReadBack.{InlinesReadBack, ItemsReadBack, TextsReadBack, InlinesArePlain};
+ghost use Rattle.htmd_law_inlines.specs.ReadBack.{ItemsArePlain};
 
 /// A text alone is read back, in a paragraph, a heading and a cell, whatever is defined.
 pub fn texts_read_back()
@@ -17,4 +18,15 @@ pub fn inlines_read_back()
 /// The paragraph that an item begins with is read back, also where it begins with a task.
 pub fn items_read_back()
     ensures { ItemsReadBack }
+{}
+
+/// What is read of normal inlines has text alone in descriptions of images, and a break is a tag only in a line that
+/// has to be one.
+pub fn inlines_are_plain()
+    ensures { InlinesArePlain }
+{}
+
+/// So has what is read of the paragraph that an item begins with.
+pub fn items_are_plain()
+    ensures { ItemsArePlain }
 {}

@@ -1,5 +1,6 @@
 -- The lemmas that lead to the laws.
 pub mod WholeDocuments
+pub mod PlainDocuments
 pub mod ReadingMain
 pub mod LineEnds
 pub mod DefinitionLines

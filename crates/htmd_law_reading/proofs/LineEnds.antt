@@ -9,13 +9,13 @@ use Rattle.htmd_document.specs.Documents.{Block, Blocks, no_blocks, block}
 use Rattle.htmd_document.specs.FlatDocuments.{flattened}
 use Rattle.htmd_commonmark.specs.declared.options.DocumentOptions.{DocumentOptions}
 use Rattle.htmd_commonmark.specs.BlockMarkdown.{written_blocks}
-use Rattle.htmd_commonmark.specs.DocumentMarkdown.{flat_markdown, written_definitions, outermost}
+use Rattle.htmd_commonmark.specs.DocumentMarkdown.{flat_markdown, markdown_of, written_definitions, outermost}
 use Rattle.htmd_commonmark_reading.specs.Characters.{replacement_character}
 use Rattle.htmd_commonmark_reading.specs.Lines.{split_lines, without_null, onto_first, placed}
 use Rattle.htmd_commonmark_reading.specs.Boxes.{joined_lines}
 use Rattle.htmd_commonmark_reading.specs.Containers.{parsed}
 use Rattle.htmd_commonmark_reading.specs.LinkDefinitions.{Definition}
-use Rattle.htmd_commonmark_reading.specs.Reading.{document, finished, nested_of}
+use Rattle.htmd_commonmark_reading.specs.Reading.{read, finished, nested_of}
 use Rattle.htmd_commonmark_reading.specs.SeenMarkup.{seen_blocks, document_blocks}
 use Rattle.htmd_law_blocks.specs.BlockLaws.{definition_lines}
 use Rattle.htmd_law_blocks.specs.DocumentTexts.{AreOneLine, DefinitionTexts}
@@ -25,13 +25,13 @@ use Rattle.htmd_law_blocks.proofs.DocumentPieces.{first_pieces, first_written}
 use Rattle.htmd_law_blocks.proofs.DocumentReadBack.{document_filled}
 use Rattle.htmd_law_blocks.proofs.PieceTextsLemmas.{filled_is_text, filled_joined}
 use Rattle.htmd_law_blocks.proofs.PiecesLemmas.{pieces_lines}
-use Rattle.htmd_document.specs.NormalDocuments.{IsFlat}
+use Rattle.htmd_document.specs.NormalDocuments.{IsFlat, IsNormal}
 use Rattle.htmd_law_inlines.proofs.TextPieces.{test}
 use Rattle.htmd_law_texts.specs.TextLaws.{definitions_of}
 use Rattle.htmd_law_texts.proofs.NormalForm.{blocks_are_normal}
 use Rattle.htmd_law_texts.proofs.DocumentLaws.{texts_are_lines, definitions_are_read}
 use Rattle.htmd_law_texts.proofs.FlatForm.{normal_is_flat}
-use Rattle.htmd_law_reading.specs.ReadingLaws.{FilesReadBack}
+use Rattle.htmd_law_reading.specs.ReadingLaws.{file_of, FilesReadBack}
 use Rattle.htmd_law_reading.proofs.ReadingMain.{reads_back}
 
 -- ---- texts that end in a line
@@ -102,9 +102,9 @@ nulls_end (c ∷ d ∷ s) h =
     (ends_append (replaced c) (without_null (d ∷ s)) (nulls_end (d ∷ s) h))
 
 -- what is read stays as it is
-same_document : (s : List ℕ) → EndsInLine s → document (s ++ (10 ∷ [])) ≡ document s
-same_document s h =
-    ap (λ ls. nested_of (document_blocks (seen_blocks (finished (parsed (placed ls))))))
+same_reading : (s : List ℕ) → EndsInLine s → read (s ++ (10 ∷ [])) ≡ read s
+same_reading s h =
+    ap (λ ls. finished (parsed (placed ls)))
     (ap split_lines (nulls_after s (10 ∷ [])) ∙ same_lines (without_null s) (nulls_end s h))
 
 -- ---- what is written
@@ -145,11 +145,16 @@ written_ends options first rest n =
     (lines_end (pieces_lines ps) t.0 t.1))
 
 same_flat : (options : DocumentOptions) (d : Blocks) → IsFlat d
-    → document (flat_markdown options d ++ (10 ∷ [])) ≡ document (flat_markdown options d)
+    → read (flat_markdown options d ++ (10 ∷ [])) ≡ read (flat_markdown options d)
 same_flat options no_blocks n = refl
 same_flat options (block first rest) n =
-    same_document (flat_markdown options (block first rest)) (written_ends options first rest n)
+    same_reading (flat_markdown options (block first rest)) (written_ends options first rest n)
+
+-- of a file is read what is read of its Markdown
+pub files_read : (options : DocumentOptions) (d : Blocks) → IsNormal d
+    → read (file_of options d) ≡ read (markdown_of options d)
+files_read options d n = same_flat options (flattened d) (normal_is_flat d n)
 
 pub files_read_back : FilesReadBack
 files_read_back options d n few =
-    same_flat options (flattened d) (normal_is_flat d n) ∙ reads_back options d n few
+    ap (λ bs. nested_of (document_blocks (seen_blocks bs))) (files_read options d n) ∙ reads_back options d n few

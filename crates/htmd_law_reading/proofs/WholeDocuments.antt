@@ -45,7 +45,7 @@ use Rattle.htmd_law_texts.proofs.Growth.{rows_grown, blocks_grown, further_grown
 
 -- ---- lines
 
-few_before : (es after all : List (List ℕ)) → es ++ after ≡ all → AreFew all → AreFew es
+pub few_before : (es after all : List (List ℕ)) → es ++ after ≡ all → AreFew all → AreFew es
 few_before es after all e f =
     let l = ap length e in
     let m = length-append es after in
@@ -72,7 +72,7 @@ first_seen options all ds after xs h d n e =
     ∙ items_read_back line ds after xs refl (numbers_are 1 ds d) n (few_before w.definitions after all e h)
 
 -- what a reader takes a paragraph's text for, which may begin an item
-abbrev reads_of : Bool → List (List ℕ) → List ℕ → markup.Inlines
+abbrev pub reads_of : Bool → List (List ℕ) → List ℕ → markup.Inlines
 reads_of begins_item all = if begins_item then item_text (references all) else inlines (references all)
 
 paragraph_seen : (options : DocumentOptions) (b : Bool) (all ds after : List (List ℕ)) (xs : Inlines) → AreFew all
@@ -95,13 +95,13 @@ heading_seen options level all ds after xs h d n e =
 
 -- ---- tables
 
-after_is : (options : DocumentOptions) (ds : List (List ℕ)) (cells : List Inlines)
+pub after_is : (options : DocumentOptions) (ds : List (List ℕ)) (cells : List Inlines)
     → after_cells options ds cells ≡ (written_cells (line_of options Cell) ds cells).definitions
 after_is options ds [] = refl
 after_is options ds (xs ∷ cells) = after_is options (written_line (line_of options Cell) ds xs).definitions cells
 
 -- lines that grow further, before others
-rest_of_all : (ds es after all : List (List ℕ)) (g : Grown ds es) → es ++ after ≡ all
+pub rest_of_all : (ds es after all : List (List ℕ)) (g : Grown ds es) → es ++ after ≡ all
     → ds ++ (g.more ++ after) ≡ all
 rest_of_all ds es after all g e = sym (append_assoc ds g.more after) ∙ ap (λ l. l ++ after) (sym g.is) ∙ e
 
