@@ -18,5 +18,16 @@ pub mod PairedBlocks
 pub mod StrictSeen
 pub mod StrictDocuments
 pub mod StrictDocumentBlocks
+pub mod DocumentLevels
+pub mod SeenLevels
+pub mod ShallowBlocks
+pub mod SoundTags
+pub mod SoundRuns
+pub mod SoundLines
+pub mod SoundReadings
+pub mod SoundWords
+pub mod SoundDocuments
+pub mod SoundBlocks
+pub mod SoundHtml
 pub mod DocumentLemmas
 mod Examples

@@ -13,7 +13,8 @@ use Rattle.htmd_commonmark_reading.specs.Anchors.{value, anchor_id, abbreviation
 use Rattle.htmd_commonmark_reading.specs.Markup.{Inlines, no_inlines, letter, code, formatted, link, image, line_break}
 use Rattle.htmd_commonmark_reading.specs.Markup.{task, raw, joined, letters, plain_text}
 use Rattle.htmd_commonmark_reading.specs.SeenMarkup.{Pair, format_pair, code_pair, Tag, tags, closing_tag, abbreviation}
-use Rattle.htmd_commonmark_reading.specs.SeenMarkup.{Role, opens, closes, breaks, stays, role_among, role_by_title, role}
+use Rattle.htmd_commonmark_reading.specs.SeenMarkup.{Role, opens, closes, breaks, stays, role_among, role_by_title}
+use Rattle.htmd_commonmark_reading.specs.SeenMarkup.{role}
 use Rattle.htmd_commonmark_reading.specs.SeenMarkup.{Tags, outside, inside, with_seen, all_seen, is_text_alone, paired}
 use Rattle.htmd_commonmark_reading.specs.SeenMarkup.{closed_tag, with_raw, seen, seen_inlines, with_first, with_letter}
 use Rattle.htmd_commonmark_reading.specs.SeenMarkup.{with_content, with_anchor, document_inlines}
@@ -314,7 +315,7 @@ closed-formats t whole (inside u items below) content w f =
     (λ q. rw q (closed-formats t whole below (raw u.open_tag (joined items content)) w f.2))
 
 -- what a pair leaves over, and that it ends no anchor
-pair-none : (b : Tags) (t : Tag) (pair : Pair) (content xs : Inlines) → is_anchor t.open_tag ≡ false
+pub pair-none : (b : Tags) (t : Tag) (pair : Pair) (content xs : Inlines) → is_anchor t.open_tag ≡ false
     → is_end t.open_tag ≡ false → Goes (with_seen b (paired t pair content)) xs
     → (left_in b ≡ 0) × (is_pending b ≡ false) × (left false content ≡ 0) × (pending false content ≡ false)
     × (unopened xs ≡ Some (names b))
@@ -415,7 +416,7 @@ tag-of-role s a e = by_id (anchor_id s) a
 
 -- ---- what is seen has nothing left over only if tags pair
 
-never-closed : (b : Tags) (s : List ℕ) (xs : Inlines) → AreFormats b → is_anchor s ≡ false
+pub never-closed : (b : Tags) (s : List ℕ) (xs : Inlines) → AreFormats b → is_anchor s ≡ false
     → is_end s ≡ false → total (all_seen b (raw s xs)) ≡ 0 → ⊥
 never-closed (outside items) s xs f a e h =
     let j = left-joined false items (raw s xs) in

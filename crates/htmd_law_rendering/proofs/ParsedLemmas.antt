@@ -14,7 +14,7 @@ use Rattle.htmd_commonmark_reading.specs.Rendering.{html_of, is_bare}
 use Rattle.htmd_law_rendering.specs.RenderedTrees.{element_before, spelled_of, trees_of, blocks_trees}
 use Rattle.htmd_law_rendering.specs.SpelledTrees.{all_spelled, value_forest}
 use Rattle.htmd_law_rendering.specs.PlainReadings.{IsPlain, block_is_paired, blocks_are_paired, block_is_strict}
-use Rattle.htmd_law_rendering.specs.PlainReadings.{blocks_are_strict, block_has_no_table, blocks_have_no_table}
+use Rattle.htmd_law_rendering.specs.PlainReadings.{blocks_are_strict}
 use Rattle.htmd_law_rendering.specs.RenderingLaws.{RenderedIsParsed}
 use Rattle.htmd_law_rendering.proofs.RenderedLemmas.{rendered}
 use Rattle.htmd_law_rendering.proofs.StrictBlocks.{plain-fits, rendered-reads}
@@ -28,10 +28,10 @@ module _ (pages : PlainPagesAgree) (texts : PlainTextsAgree) (z : Bool) where
       let c = subst IsClean (sym (rendered bs p.paired)) (spelled-clean z (spelled_of bs) below_body fits) in
       record { line_feeds = p.no_returns; no_null = n; references_end = c outside }
 
-  behind_body : (bs : Blocks) → IsPlain bs → blocks_have_no_table bs ≡ true → lacks null (html_of bs) ≡ true
+  behind_body : (bs : Blocks) → IsPlain bs → lacks null (html_of bs) ≡ true
       → html5_document z (codes "<body>" ++ html_of bs) ≡ document_items (skeleton (trees_of bs))
-  behind_body bs p t n =
-      pages z (html_of bs) (trees_of bs) (unambiguous bs p n) (trees-plain bs p.strict t) (rendered-reads z bs p)
+  behind_body bs p n =
+      pages z (html_of bs) (trees_of bs) (unambiguous bs p n) (trees-plain bs p.strict) (rendered-reads z bs p)
 
   -- what a first block begins
   first_begins : (bs : Blocks) → BeginsBody (spelled_of bs) → IsPlain bs
@@ -43,18 +43,17 @@ module _ (pages : PlainPagesAgree) (texts : PlainTextsAgree) (z : Bool) where
         ap (λ ts. begins_body (value_forest ts)) b.is_first ∙ b.belongs,
       )
 
-  alone : (bs : Blocks) → IsPlain bs → blocks_have_no_table bs ≡ true → lacks null (html_of bs) ≡ true
+  alone : (bs : Blocks) → IsPlain bs → lacks null (html_of bs) ≡ true
       → html5_document z (html_of bs) ≡ document_items (skeleton (trees_of bs))
   unfolding html5_document
-  alone no_blocks p t n = refl
-  alone (block b bs) p t n =
+  alone no_blocks p n = refl
+  alone (block b bs) p n =
       let r = and_parts (block_is_paired b) (blocks_are_paired bs) p.paired in
       let s = and_parts (block_is_strict b) (blocks_are_strict bs) p.strict in
-      let q = and_parts (block_has_no_table b) (blocks_have_no_table bs) t in
       let f = first_begins (block b bs)
-      (block-begins b (blocks_trees false (is_bare false b) bs) r.0 s.0 q.0) p in
+      (block-begins b (blocks_trees false (is_bare false b) bs) r.0 s.0) p in
       texts z (html_of (block b bs)) (trees_of (block b bs)) (unambiguous (block b bs) p n) f.0
-      (trees-plain (block b bs) p.strict t) f.1 (rendered-reads z (block b bs) p)
+      (trees-plain (block b bs) p.strict) f.1 (rendered-reads z (block b bs) p)
 
 pub parsed : PlainPagesAgree → PlainTextsAgree → RenderedIsParsed
-parsed pages texts z bs p t n = (alone pages texts z bs p t n, behind_body pages texts z bs p t n)
+parsed pages texts z bs p n = (alone pages texts z bs p n, behind_body pages texts z bs p n)

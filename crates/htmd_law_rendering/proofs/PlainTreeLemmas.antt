@@ -1,5 +1,6 @@
--- The trees of what is read without tables are plain, and begin a body.
-use Rattle.std.proofs.Common.{◌≡◌, ℕ, Bool, true, false, not, ◌&&◌, List, [], ◌∷◌, refl, codes, Option, Some, None}
+-- The trees of what is read are plain, and begin a body.
+use Rattle.std.proofs.Common.{◌≡◌, ℕ, Bool, true, false, not, ◌&&◌, List, [], ◌∷◌, drop, refl, codes, Option, Some}
+use Rattle.std.proofs.Common.{None}
 use Rattle.std.specs.Prelude.{nat_le, ⊤}
 use Rattle.std.proofs.lemmas.Bool.{and_parts}
 use Rattle.htmd_lexical.proofs.Cases.{test}
@@ -8,15 +9,17 @@ use Rattle.htmd_lexical.specs.ByteOrderMarks.{behind_mark}
 use Rattle.htmd_lexical.specs.CharacterClasses.{is_among}
 use Rattle.htmd_document.specs.Formats.{Format, Emphasis, Strong, Deleted, Superscript, Subscript, Inserted, Underlined}
 use Rattle.htmd_document.specs.Formats.{Marked, Small, Keyboard, Abbreviation}
-use Rattle.htmd_law_rendering.specs.SpelledTrees.{TagForm, spaced, short, SpelledForest, text, element, none, more, value_forest}
+use Rattle.htmd_law_rendering.specs.SpelledTrees.{TagForm, spaced, short, SpelledForest, text, element, none, more}
+use Rattle.htmd_law_rendering.specs.SpelledTrees.{value_forest}
 use Rattle.htmd_values.specs.Serialisation.{is_void}
 use Rattle.htmd_grammar.proofs.NestingLemmas.{among_passes}
-use Rattle.htmd_law_html5.specs.StrictTrees.{is_plain_element, are_plain, head_names}
+use Rattle.htmd_law_html5.specs.StrictTrees.{is_plain_element, are_plain, table_names, head_names}
 use Rattle.htmd_commonmark_reading.specs.Markup.{Inlines, no_inlines, letter, code, formatted, link, image, line_break}
 use Rattle.htmd_commonmark_reading.specs.Markup.{task, raw, Block, paragraph, heading, code_block, quote}
 use Rattle.htmd_commonmark_reading.specs.Markup.{thematic_break, list, table, html_block, Blocks, no_blocks, block}
 use Rattle.htmd_commonmark_reading.specs.Markup.{Items, no_items, item, plain_text}
-use Rattle.htmd_commonmark_reading.specs.Rendering.{is_bare}
+use Rattle.htmd_commonmark_reading.specs.Rendering.{first_alignment, is_bare}
+use Rattle.htmd_document.specs.declared.document.Alignment.{Alignment}
 use Rattle.htmd_law_rendering.specs.SpelledTrees.{all_spelled}
 use Rattle.htmd_law_rendering.specs.RawTags.{RawTag, opening, closing, breaking, unknown, raw_tag}
 use Rattle.htmd_law_rendering.specs.RenderedTrees.{text_before, element_before, line_end, format_name, pairs_of_format}
@@ -24,10 +27,11 @@ use Rattle.htmd_law_rendering.specs.RenderedTrees.{pairs_of_link, pairs_of_image
 use Rattle.htmd_law_rendering.specs.RenderedTrees.{with_raw, inlines_open, inlines_trees, heading_name}
 use Rattle.htmd_law_rendering.specs.RenderedTrees.{pairs_of_language, code_trees, code_block_tree, list_name}
 use Rattle.htmd_law_rendering.specs.RenderedTrees.{pairs_of_start, begun_line, block_trees, blocks_trees, items_trees}
-use Rattle.htmd_law_rendering.specs.RenderedTrees.{spelled_of}
+use Rattle.htmd_law_rendering.specs.RenderedTrees.{spelled_of, pairs_of_alignment, cells_trees, lines_before}
+use Rattle.htmd_law_rendering.specs.RenderedTrees.{row_trees, rows_trees, body_trees, table_trees}
+use Rattle.htmd_grammar.specs.Grammar.{begins_with_row}
 use Rattle.htmd_law_rendering.specs.PlainReadings.{are_strict, block_is_strict, blocks_are_strict, items_are_strict}
-use Rattle.htmd_law_rendering.specs.PlainReadings.{block_is_paired, block_has_no_table, blocks_have_no_table}
-use Rattle.htmd_law_rendering.specs.PlainReadings.{items_have_no_table}
+use Rattle.htmd_law_rendering.specs.PlainReadings.{block_is_paired}
 use Rattle.htmd_law_rendering.proofs.RawNames.{raw_names}
 use Rattle.htmd_law_rendering.proofs.RawLemmas.{IsRaw, raw-is}
 use Rattle.htmd_law_rendering.proofs.PlaceLemmas.{by_level}
@@ -195,56 +199,111 @@ begun-plain true false ts h = line-plain ts h
 begun-plain false true ts h = h
 begun-plain false false ts h = h
 
+-- ---- tables
+
+-- each cell, row and section of a table, and the table
+table-name : (n : List ℕ) → is_among table_names n ≡ true → is_plain_element n ≡ true
+unfolding is_void
+table-name n e = among_passes is_plain_element table_names n e refl
+
+lines-plain : (n : List ℕ) (content rest : SpelledForest) → is_plain_element n ≡ true → ArePlain content
+    → ArePlain rest → ArePlain (lines_before n [] content rest)
+lines-plain n content rest e h f =
+    element-plain spaced n [] (line_end content) (line_end rest) e (line-plain content h) (line-plain rest f)
+
+cells-plain : (n : List ℕ) (alignments : List Alignment) (cs : List Inlines) → is_plain_element n ≡ true
+    → ArePlain (cells_trees n alignments cs)
+cells-plain n alignments [] e = refl
+cells-plain n alignments (c ∷ cs) e =
+    let others = cells_trees n (drop 1 alignments) cs in
+    element-plain spaced n (pairs_of_alignment (first_alignment alignments)) (inlines_trees c none) (line_end others) e
+    (inlines-plain c none refl) (line-plain others (cells-plain n (drop 1 alignments) cs e))
+
+row-plain : (n : List ℕ) (alignments : List Alignment) (cs : List Inlines) (rest : SpelledForest)
+    → is_plain_element n ≡ true → ArePlain rest → ArePlain (row_trees n alignments cs rest)
+row-plain n alignments cs rest e h =
+    lines-plain (codes "tr") (cells_trees n alignments cs) rest (table-name (codes "tr") refl)
+    (cells-plain n alignments cs e) h
+
+rows-plain : (alignments : List Alignment) (rows : List (List Inlines)) → ArePlain (rows_trees alignments rows)
+rows-plain alignments [] = refl
+rows-plain alignments (r ∷ rs) =
+    row-plain (codes "td") alignments r (rows_trees alignments rs) (table-name (codes "td") refl)
+    (rows-plain alignments rs)
+
+-- a `tbody` that begins with a line feed
+body_lines-plain : (ks : SpelledForest) → ArePlain ks → ArePlain (lines_before (codes "tbody") [] ks none)
+unfolding is_void
+body_lines-plain ks h = rw (no_row ks, line-plain ks h) refl
+  where
+    no_row : (ks : SpelledForest) → begins_with_row (value_forest (line_end ks)) ≡ false
+    no_row none = refl
+    no_row (more (text u) ts) = refl
+    no_row (more (element k n attributes kk) ts) = refl
+
+body-plain : (alignments : List Alignment) (rows : List (List Inlines)) → ArePlain (body_trees alignments rows)
+body-plain alignments [] = refl
+body-plain alignments (r ∷ rs) =
+    body_lines-plain (rows_trees alignments (r ∷ rs)) (rows-plain alignments (r ∷ rs))
+
+table-plain : (alignments : List Alignment) (header : List Inlines) (rows : List (List Inlines))
+    (rest : SpelledForest) → ArePlain rest → ArePlain (table_trees alignments header rows rest)
+table-plain alignments header rows rest h =
+    let head = row_trees (codes "th") alignments header none in
+    let body = body_trees alignments rows in
+    lines-plain (codes "table") (lines_before (codes "thead") [] head body) rest (table-name (codes "table") refl)
+    (lines-plain (codes "thead") head body (table-name (codes "thead") refl)
+    (row-plain (codes "th") alignments header none (table-name (codes "th") refl) refl) (body-plain alignments rows)) h
+
+-- ---- blocks
+
 mutual
   block-plain : (tight : Bool) (b : Block) (rest : SpelledForest) → block_is_strict b ≡ true
-      → block_has_no_table b ≡ true → ArePlain rest → ArePlain (block_trees tight b rest)
-  block-plain true (paragraph xs) rest s t h = inlines-plain xs rest h
-  block-plain false (paragraph xs) rest s t h =
+      → ArePlain rest → ArePlain (block_trees tight b rest)
+  block-plain true (paragraph xs) rest s h = inlines-plain xs rest h
+  block-plain false (paragraph xs) rest s h =
       element-plain spaced (codes "p") [] (inlines_trees xs none) (line_end rest) p-plain (inlines-plain xs none refl)
       (line-plain rest h)
-  block-plain tight (heading level xs) rest s t h =
+  block-plain tight (heading level xs) rest s h =
       let p = and_parts (nat_le 1 level && nat_le level 6) (are_strict false xs) s in
       let q = and_parts (nat_le 1 level) (nat_le level 6) p.0 in
       element-plain spaced (heading_name level) [] (inlines_trees xs none) (line_end rest) (heading-plain level q.0 q.1)
       (inlines-plain xs none refl) (line-plain rest h)
-  block-plain tight (code_block language u) rest s t h =
+  block-plain tight (code_block language u) rest s h =
       element-plain spaced (codes "pre") [] (code_block_tree language u) (line_end rest) pre-plain
       (element-plain spaced (codes "code") (pairs_of_language language) (code_trees u) none code-plain
       (code_text-plain u) refl) (line-plain rest h)
-  block-plain tight (quote bs) rest s t h =
+  block-plain tight (quote bs) rest s h =
       element-plain spaced (codes "blockquote") [] (line_end (blocks_trees false false bs)) (line_end rest) quote-plain
-      (line-plain (blocks_trees false false bs) (blocks-plain false false bs s t)) (line-plain rest h)
-  block-plain tight thematic_break rest s t h =
+      (line-plain (blocks_trees false false bs) (blocks-plain false false bs s)) (line-plain rest h)
+  block-plain tight thematic_break rest s h =
       element-plain spaced (codes "hr") [] none (line_end rest) hr-plain refl (line-plain rest h)
-  block-plain tight (list start is_tight items) rest s t h =
+  block-plain tight (list start is_tight items) rest s h =
       element-plain spaced (list_name start) (pairs_of_start start) (line_end (items_trees is_tight items))
-      (line_end rest) (list-plain start) (line-plain (items_trees is_tight items) (items-plain is_tight items s t))
+      (line_end rest) (list-plain start) (line-plain (items_trees is_tight items) (items-plain is_tight items s))
       (line-plain rest h)
-  block-plain tight (table alignments header rs) rest s t h = absurd (cc)
-  block-plain tight (html_block u) rest s t h = h
+  block-plain tight (table alignments header rows) rest s h = table-plain alignments header rows rest h
+  block-plain tight (html_block u) rest s h = h
 
-  blocks-plain : (tight l : Bool) (bs : Blocks) → blocks_are_strict bs ≡ true → blocks_have_no_table bs ≡ true
+  blocks-plain : (tight l : Bool) (bs : Blocks) → blocks_are_strict bs ≡ true
       → ArePlain (blocks_trees tight l bs)
-  blocks-plain tight l no_blocks s t = refl
-  blocks-plain tight l (block b bs) s t =
+  blocks-plain tight l no_blocks s = refl
+  blocks-plain tight l (block b bs) s =
       let p = and_parts (block_is_strict b) (blocks_are_strict bs) s in
-      let q = and_parts (block_has_no_table b) (blocks_have_no_table bs) t in
       let behind = blocks_trees tight (is_bare tight b) bs in
       begun-plain l (is_bare tight b) (block_trees tight b behind)
-      (block-plain tight b behind p.0 q.0 (blocks-plain tight (is_bare tight b) bs p.1 q.1))
+      (block-plain tight b behind p.0 (blocks-plain tight (is_bare tight b) bs p.1))
 
   items-plain : (tight : Bool) (items : Items) → items_are_strict items ≡ true
-      → items_have_no_table items ≡ true → ArePlain (items_trees tight items)
-  items-plain tight no_items s t = refl
-  items-plain tight (item bs rest) s t =
+      → ArePlain (items_trees tight items)
+  items-plain tight no_items s = refl
+  items-plain tight (item bs rest) s =
       let p = and_parts (blocks_are_strict bs) (items_are_strict rest) s in
-      let q = and_parts (blocks_have_no_table bs) (items_have_no_table rest) t in
       element-plain spaced (codes "li") [] (blocks_trees tight true bs) (line_end (items_trees tight rest)) li-plain
-      (blocks-plain tight true bs p.0 q.0) (line-plain (items_trees tight rest) (items-plain tight rest p.1 q.1))
+      (blocks-plain tight true bs p.0) (line-plain (items_trees tight rest) (items-plain tight rest p.1))
 
-pub trees-plain : (bs : Blocks) → blocks_are_strict bs ≡ true → blocks_have_no_table bs ≡ true
-    → ArePlain (spelled_of bs)
-trees-plain bs s t = blocks-plain false false bs s t
+pub trees-plain : (bs : Blocks) → blocks_are_strict bs ≡ true → ArePlain (spelled_of bs)
+trees-plain bs s = blocks-plain false false bs s
 
 -- ---- beginnings
 
@@ -278,22 +337,24 @@ list-belongs None = refl
 list-belongs (Some n) = refl
 
 pub block-begins : (b : Block) (rest : SpelledForest) → block_is_paired b ≡ true → block_is_strict b ≡ true
-    → block_has_no_table b ≡ true → BeginsBody (block_trees false b rest)
-block-begins (paragraph xs) rest r s t = begins (codes "p") [] (inlines_trees xs none) (line_end rest) refl
-block-begins (heading level xs) rest r s t =
+    → BeginsBody (block_trees false b rest)
+block-begins (paragraph xs) rest r s = begins (codes "p") [] (inlines_trees xs none) (line_end rest) refl
+block-begins (heading level xs) rest r s =
     let p = and_parts (nat_le 1 level && nat_le level 6) (are_strict false xs) s in
     let q = and_parts (nat_le 1 level) (nat_le level 6) p.0 in
     begins (heading_name level) [] (inlines_trees xs none) (line_end rest) (heading-belongs level q.0 q.1)
-block-begins (code_block language u) rest r s t =
+block-begins (code_block language u) rest r s =
     begins (codes "pre") [] (code_block_tree language u) (line_end rest) refl
-block-begins (quote bs) rest r s t =
+block-begins (quote bs) rest r s =
     begins (codes "blockquote") [] (line_end (blocks_trees false false bs)) (line_end rest) refl
-block-begins thematic_break rest r s t = begins (codes "hr") [] none (line_end rest) refl
-block-begins (list start is_tight items) rest r s t =
+block-begins thematic_break rest r s = begins (codes "hr") [] none (line_end rest) refl
+block-begins (list start is_tight items) rest r s =
     begins (list_name start) (pairs_of_start start) (line_end (items_trees is_tight items)) (line_end rest)
     (list-belongs start)
-block-begins (table alignments header rs) rest r s t = absurd (cc)
-block-begins (html_block u) rest r s t = absurd (cc)
+block-begins (table alignments header rows) rest r s =
+    begins (codes "table") [] (line_end (lines_before (codes "thead") []
+    (row_trees (codes "th") alignments header none) (body_trees alignments rows))) (line_end rest) refl
+block-begins (html_block u) rest r s = absurd (cc)
 
 -- so no byte order mark does
 pub no_mark : (n : List ℕ) (attributes : List AttributePair) (ks ts : SpelledForest)

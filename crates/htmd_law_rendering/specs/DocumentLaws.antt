@@ -1,7 +1,5 @@
 -- The HTML of the Markdown of documents in normal form whose blocks are no elements of HTML.
-use Rattle.std.specs.Prelude.{◌≡◌, ◌≤◌, Bool, true}
-use Rattle.htmd_lexical.specs.Characters.{carriage_return, null}
-use Rattle.htmd_lexical.specs.CharacterClasses.{lacks}
+use Rattle.std.specs.Prelude.{◌≡◌, Bool, true}
 use Rattle.htmd_document.specs.Documents.{Blocks}
 use Rattle.htmd_document.specs.NormalDocuments.{IsNormal}
 use Rattle.htmd_grammar.specs.HtmlDocuments.{skeleton}
@@ -13,9 +11,9 @@ use Rattle.htmd_commonmark_reading.specs.Markup as markup
 use Rattle.htmd_commonmark_reading.specs.Reading.{read}
 use Rattle.htmd_commonmark_reading.specs.Rendering.{html_of}
 use Rattle.htmd_law_reading.specs.ReadingLaws.{HasFewDefinitions}
-use Rattle.htmd_law_rendering.specs.SpelledTrees.{all_spelled, levels}
+use Rattle.htmd_law_rendering.specs.SpelledTrees.{all_spelled}
 use Rattle.htmd_law_rendering.specs.RenderedTrees.{spelled_of, trees_of}
-use Rattle.htmd_law_rendering.specs.PlainReadings.{blocks_have_no_elements, no_table_in_blocks}
+use Rattle.htmd_law_rendering.specs.PlainReadings.{blocks_have_no_elements}
 
 -- what is read of the Markdown of a document
 abbrev pub reading_of : DocumentOptions → Blocks → markup.Blocks
@@ -27,12 +25,9 @@ DocumentsAreSpelled = (options : DocumentOptions) (d : Blocks) → IsNormal d �
     → blocks_have_no_elements d ≡ true
     → html_of (reading_of options d) ≡ all_spelled (spelled_of (reading_of options d))
 
--- And if the document has no table, no carriage return and no U+0000 is in the HTML, and it is nested only so deep, the
--- reader of any page makes the document of these trees of it.
+-- And the reader of any page makes the document of these trees of it.
 abbrev pub DocumentsAreParsed : Type 0
 DocumentsAreParsed = (scripting : Bool) (options : DocumentOptions) (d : Blocks) → IsNormal d
-    → HasFewDefinitions options d → blocks_have_no_elements d ≡ true → no_table_in_blocks d ≡ true
-    → lacks carriage_return (html_of (reading_of options d)) ≡ true
-    → lacks null (html_of (reading_of options d)) ≡ true → levels (spelled_of (reading_of options d)) ≤ 1022
+    → HasFewDefinitions options d → blocks_have_no_elements d ≡ true
     → html5_document scripting (html_of (reading_of options d))
     ≡ document_items (skeleton (trees_of (reading_of options d)))

@@ -82,7 +82,7 @@ abbrev mutual
   items_are_paired no_items = true
   items_are_paired (item bs rest) = blocks_are_paired bs && items_are_paired rest
 
--- ---- documents without elements of HTML, or without tables
+-- ---- documents without elements of HTML
 
 abbrev mutual
   -- neither elements nor their tags in lines
@@ -100,22 +100,6 @@ abbrev mutual
   pub items_have_no_elements : document.Items → Bool
   items_have_no_elements document.no_items = true
   items_have_no_elements (document.item bs rest) = blocks_have_no_elements bs && items_have_no_elements rest
-
-abbrev mutual
-  pub no_table_in_block : document.Block → Bool
-  no_table_in_block (document.quote bs) = no_table_in_blocks bs
-  no_table_in_block (document.list start is_tight items) = no_table_in_items items
-  no_table_in_block (document.table alignments header rows) = false
-  no_table_in_block (document.element name attributes bs) = no_table_in_blocks bs
-  no_table_in_block b = true
-
-  pub no_table_in_blocks : document.Blocks → Bool
-  no_table_in_blocks document.no_blocks = true
-  no_table_in_blocks (document.block b bs) = no_table_in_block b && no_table_in_blocks bs
-
-  pub no_table_in_items : document.Items → Bool
-  no_table_in_items document.no_items = true
-  no_table_in_items (document.item bs rest) = no_table_in_blocks bs && no_table_in_items rest
 
 -- ---- where HTML allows elements
 
@@ -175,23 +159,6 @@ abbrev mutual
   pub items_are_strict : Items → Bool
   items_are_strict no_items = true
   items_are_strict (item bs rest) = blocks_are_strict bs && items_are_strict rest
-
--- ---- tables
-
-abbrev mutual
-  pub block_has_no_table : Block → Bool
-  block_has_no_table (quote bs) = blocks_have_no_table bs
-  block_has_no_table (list start tight items) = items_have_no_table items
-  block_has_no_table (table alignments header rows) = false
-  block_has_no_table b = true
-
-  pub blocks_have_no_table : Blocks → Bool
-  blocks_have_no_table no_blocks = true
-  blocks_have_no_table (block b bs) = block_has_no_table b && blocks_have_no_table bs
-
-  pub items_have_no_table : Items → Bool
-  items_have_no_table no_items = true
-  items_have_no_table (item bs rest) = blocks_have_no_table bs && items_have_no_table rest
 
 -- ---- what is plain
 

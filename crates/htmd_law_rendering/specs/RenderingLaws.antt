@@ -15,7 +15,7 @@ use Rattle.htmd_document.specs.NormalDocuments.{IsFlat}
 use Rattle.htmd_law_rendering.specs.RenderedTrees.{spelled_of, trees_of}
 use Rattle.htmd_law_rendering.specs.SpelledTrees.{all_spelled}
 use Rattle.htmd_law_rendering.specs.PlainReadings.{blocks_are_paired, blocks_have_no_elements, blocks_are_strict}
-use Rattle.htmd_law_rendering.specs.PlainReadings.{blocks_have_no_table, IsPlain}
+use Rattle.htmd_law_rendering.specs.PlainReadings.{IsPlain}
 
 -- If raw tags pair, the HTML of what is read is that of its trees.
 abbrev pub RenderedIsSpelled : Type 0
@@ -26,10 +26,9 @@ abbrev pub RenderedIsRead : Type 0
 RenderedIsRead = (scripting : Bool) (bs : Blocks) → IsPlain bs
     → DenotesAlone (project scripting) below_body (html_of bs) (trees_of bs)
 
--- And if it has no table and no U+0000, the reader of any page makes that document of it, also behind `<body>`.
+-- And if it has no U+0000, the reader of any page makes that document of it, also behind `<body>`.
 abbrev pub RenderedIsParsed : Type 0
-RenderedIsParsed = (scripting : Bool) (bs : Blocks) → IsPlain bs → blocks_have_no_table bs ≡ true
-    → lacks null (html_of bs) ≡ true
+RenderedIsParsed = (scripting : Bool) (bs : Blocks) → IsPlain bs → lacks null (html_of bs) ≡ true
     → (html5_document scripting (html_of bs) ≡ document_items (skeleton (trees_of bs)))
     × (html5_document scripting (codes "<body>" ++ html_of bs) ≡ document_items (skeleton (trees_of bs)))
 

@@ -7,8 +7,7 @@ pub fn documents_are_spelled()
     ensures { DocumentsAreSpelled }
 {}
 
-/// Without tables the reader of any page reads it as the document of these trees, if no carriage return and no U+0000
-/// is in it and it isn't nested too deep.
+/// The reader of any page reads it as the document of these trees.
 pub fn documents_are_parsed()
     ensures { DocumentsAreParsed }
 {}

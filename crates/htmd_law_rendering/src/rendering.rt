@@ -12,8 +12,8 @@ pub fn rendered_is_read()
     ensures { RenderedIsRead }
 {}
 
-/// The HTML of what is read, if that is plain without tables, is read by the reader of any page as the document of its
-/// trees.
+/// The HTML of what is read, if that is plain and has no U+0000, is read by the reader of any page as the document of
+/// its trees.
 pub fn rendered_is_parsed()
     ensures { RenderedIsParsed }
 {}
