@@ -4,7 +4,7 @@ mod CoversLemmas
 mod Examples
 mod FirstPiecesLemmas
 mod LeadingsLemmas
-mod LimitsLemmas
+pub mod LimitsLemmas
 mod SeenLemmas
 mod ShapesLemmas
 mod TargetsLemmas

@@ -1,13 +1,14 @@
 -- Inlines put after inlines, at the place where a line goes on.
-use Rattle.std.proofs.Common.{◌≡◌, ℕ, suc, Bool, true, false, List, [], ◌∷◌, ◌++◌, map, take, refl}
+use Rattle.std.proofs.Common.{◌≡◌, ℕ, zero, suc, Bool, true, false, List, [], ◌∷◌, ◌++◌, map, take}
+use Rattle.std.proofs.Common.{refl}
 use Rattle.std.proofs.Common.{sym, ap, ◌∙◌}
 use Rattle.std.proofs.lemmas.List.{append_assoc}
 use Rattle.htmd_document.specs.Documents.{Inline, text, code, formatted, link, image, anchor, line_break, task}
 use Rattle.htmd_document.specs.Documents.{Inlines, no_inlines, inline}
-use Rattle.htmd_document.specs.Formats.{Format}
 use Rattle.htmd_document.specs.NormalInlines.{has_none}
-use Rattle.htmd_flow.specs.Nesting.{Wrapper, wrapper_of, shared, text_or_code, one_inline, met}
+use Rattle.htmd_flow.specs.Nesting.{Wrapper, wrapper_of, shared, wrapped, text_or_code, one_inline, met}
 use Rattle.htmd_flow.specs.Nesting.{joined, in_last, behind}
+use Rattle.htmd_flow.specs.Nesting.{wrapped_by, with_content}
 use Rattle.htmd_flow.specs.Parts as part
 use Rattle.htmd_flow.specs.Parts.{Around}
 use Rattle.htmd_flow.proofs.ParagraphsLemmas.{alike-wrapper}
@@ -163,28 +164,80 @@ deep-more : (around : List Around) (a : Around) (m : ℕ) → deep (around ++ a 
 deep-more [] a m = refl
 deep-more (b ∷ around) a m = ap suc (deep-more around a m)
 
-in-last-joined : (change : Inlines → Inlines) (xs : Inlines) (f : Format) (c : Inlines)
-    → in_last change (joined xs (formatted f c)) ≡ joined xs (formatted f (change c))
-in-last-joined change no_inlines f c = refl
-in-last-joined change (inline (text s) no_inlines) f c = refl
-in-last-joined change (inline (code s) no_inlines) f c = refl
-in-last-joined change (inline (formatted g d) no_inlines) f c = refl
-in-last-joined change (inline (link a t d) no_inlines) f c = refl
-in-last-joined change (inline (image a t d) no_inlines) f c = refl
-in-last-joined change (inline (anchor id) no_inlines) f c = refl
-in-last-joined change (inline line_break no_inlines) f c = refl
-in-last-joined change (inline (task d) no_inlines) f c = refl
-in-last-joined change (inline x (inline y xs)) f c =
-    in-last-inner change x (joined (inline y xs) (formatted f c)) (joined-some (inline y xs) (formatted f c))
-    ∙ ap (inline x) (in-last-joined change (inline y xs) f c)
+-- what stands around merges with nothing
+pub merging-around : (x : Inline) (a : Around) (c : Inlines) → is_merging x (wrapped_by a c) ≡ false
+merging-around (text s) (part.formatted f) c = refl
+merging-around (text s) (part.linked n u v) c = refl
+merging-around (code s) (part.formatted f) c = refl
+merging-around (code s) (part.linked n u v) c = refl
+merging-around (formatted f d) a c = refl
+merging-around (link u v d) a c = refl
+merging-around (image u v d) a c = refl
+merging-around (anchor id) a c = refl
+merging-around line_break a c = refl
+merging-around (task d) a c = refl
 
--- one more format
-pub format-hole : (put : Inlines → Inlines) (around : List Around) (xs : Inlines) (f : Format) → IsHole put around
-    → IsHole (λ c. put (joined xs (formatted f c))) (around ++ part.formatted f ∷ [])
-format-hole put around xs f h m c inner y =
-    ap (λ n. behind n (put (joined xs (formatted f c))) ((around ++ part.formatted f ∷ []) ++ inner) y)
-    (deep-more around (part.formatted f) m)
-    ∙ (ap (λ all. behind (deep around (suc m)) (put (joined xs (formatted f c))) all y)
-    (append_assoc around (part.formatted f ∷ []) inner)
-    ∙ (h (suc m) (joined xs (formatted f c)) (part.formatted f ∷ inner) y
-    ∙ ap put (in-last-joined (λ content. behind m content inner y) xs f c)))
+content-around : (change : Inlines → Inlines) (a : Around) (c : Inlines)
+    → with_content change (wrapped_by a c) ≡ wrapped_by a (change c)
+content-around change (part.formatted f) c = refl
+content-around change (part.linked n u v) c = refl
+
+in-last-joined : (change : Inlines → Inlines) (xs : Inlines) (a : Around) (c : Inlines)
+    → in_last change (joined xs (wrapped_by a c)) ≡ joined xs (wrapped_by a (change c))
+in-last-joined change no_inlines a c = ap (λ x. inline x no_inlines) (content-around change a c)
+in-last-joined change (inline x no_inlines) a c =
+    ap (in_last change) (met-apart x (wrapped_by a c) (merging-around x a c))
+    ∙ (ap (λ y. inline x (inline y no_inlines)) (content-around change a c)
+    ∙ sym (met-apart x (wrapped_by a (change c)) (merging-around x a (change c))))
+in-last-joined change (inline x (inline y xs)) a c =
+    in-last-inner change x (joined (inline y xs) (wrapped_by a c)) (joined-some (inline y xs) (wrapped_by a c))
+    ∙ ap (inline x) (in-last-joined change (inline y xs) a c)
+
+-- one more format or link
+pub around-hole : (put : Inlines → Inlines) (around : List Around) (xs : Inlines) (a : Around) → IsHole put around
+    → IsHole (λ c. put (joined xs (wrapped_by a c))) (around ++ a ∷ [])
+around-hole put around xs a h m c inner y =
+    ap (λ n. behind n (put (joined xs (wrapped_by a c))) ((around ++ a ∷ []) ++ inner) y) (deep-more around a m)
+    ∙ (ap (λ all. behind (deep around (suc m)) (put (joined xs (wrapped_by a c))) all y)
+    (append_assoc around (a ∷ []) inner)
+    ∙ (h (suc m) (joined xs (wrapped_by a c)) (a ∷ inner) y
+    ∙ ap put (in-last-joined (λ content. behind m content inner y) xs a c)))
+
+-- ---- after a break
+
+some-broken : (xs ys : Inlines) → has_none (appended (appended xs (one_inline line_break)) ys) ≡ false
+some-broken no_inlines ys = refl
+some-broken (inline x xs) ys = refl
+
+-- nothing merges with a break
+joined-behind : (xs ys : Inlines) (y : Inline)
+    → joined (appended (appended xs (one_inline line_break)) ys) y
+    ≡ appended (appended xs (one_inline line_break)) (joined ys y)
+joined-behind no_inlines no_inlines y = refl
+joined-behind no_inlines (inline z ys) y = refl
+joined-behind (inline x xs) ys y =
+    joined-inner x (appended (appended xs (one_inline line_break)) ys) y (some-broken xs ys)
+    ∙ ap (inline x) (joined-behind xs ys y)
+
+-- nothing is in one
+in-last-behind : (change : Inlines → Inlines) (xs ys : Inlines)
+    → in_last change (appended (appended xs (one_inline line_break)) ys)
+    ≡ appended (appended xs (one_inline line_break)) (in_last change ys)
+in-last-behind change no_inlines no_inlines = refl
+in-last-behind change no_inlines (inline z ys) = refl
+in-last-behind change (inline x xs) ys =
+    in-last-inner change x (appended (appended xs (one_inline line_break)) ys) (some-broken xs ys)
+    ∙ ap (inline x) (in-last-behind change xs ys)
+
+behind-break : (m : ℕ) (xs ys : Inlines) (inner : List Around) (y : Inline)
+    → behind m (appended (appended xs (one_inline line_break)) ys) inner y
+    ≡ appended (appended xs (one_inline line_break)) (behind m ys inner y)
+behind-break zero xs ys inner y = joined-behind xs ys (wrapped inner y)
+behind-break (suc m) xs ys [] y = joined-behind xs ys y
+behind-break (suc m) xs ys (a ∷ inner) y = in-last-behind (λ content. behind m content inner y) xs ys
+
+-- the line goes on as one of its own
+pub break-hole : (put : Inlines → Inlines) (around : List Around) (xs : Inlines) → IsHole put around
+    → IsHole (λ ys. put (appended (appended xs (one_inline line_break)) ys)) around
+break-hole put around xs h m ys inner y =
+    h m (appended (appended xs (one_inline line_break)) ys) inner y ∙ ap put (behind-break m xs ys inner y)

@@ -1,5 +1,6 @@
 -- What shows of the page of what is read: the elements of its blocks, and line ends between them.
-use Rattle.std.proofs.Common.{◌≡◌, ℕ, zero, suc, Bool, true, false, List, [], ◌∷◌, refl, sym, ap}
+use Rattle.std.proofs.Common.{◌≡◌, ℕ, zero, suc, Bool, true, false, ◌&&◌, List, [], ◌∷◌, refl, sym}
+use Rattle.std.proofs.Common.{ap}
 use Rattle.std.proofs.Common.{◌∙◌, codes}
 use Rattle.std.proofs.Common.{Option, Some, None}
 use Rattle.std.proofs.Common.{arith}
@@ -10,22 +11,25 @@ use Rattle.std.specs.Fmt.{digits}
 use Rattle.std.specs.Str.{chars}
 use Rattle.htmd_lexical.specs.Characters.{line_feed}
 use Rattle.htmd_lexical.specs.AttributePairs.{AttributePair}
-use Rattle.htmd_values.specs.ValueTrees.{ValueTree, ValueForest}
+use Rattle.htmd_values.specs.ValueTrees.{ValueForest}
 use Rattle.htmd_values.specs.ValueTrees as value
 use Rattle.htmd_nodes.specs.NumberedTrees.{NumberedTree, NumberedForest, value_tree, value_forest}
 use Rattle.htmd_nodes.specs.NumberedTrees as page
 use Rattle.htmd_grammar.specs.HtmlDocuments.{skeleton}
 use Rattle.htmd_shown.specs.declared.role.Role.TheVariants as role
+use Rattle.htmd_shown.specs.ClassWords.{has_class, mathjax_words}
 use Rattle.htmd_shown.specs.Facts.{made}
 use Rattle.htmd_shown.specs.Repeats.{is_copied}
 use Rattle.htmd_shown.specs.Roles.{role_of, table_role, heading_or_block, block_role, inline_role, element_role}
 use Rattle.htmd_shown.specs.Shown.{nowhere, raised, followed_by, shown, shown_all, shown_in}
+use Rattle.htmd_shown.specs.ShownTexts.{shown_text}
 use Rattle.htmd_shown.specs.SimpleTrees.{Simples, text, none, more}
 use Rattle.htmd_document.specs.NormalDocuments.{is_level}
 use Rattle.htmd_law_rendering.specs.RenderedTrees.{heading_name}
 use Rattle.htmd_law_returning.specs.ReturningLaws.{whole_sight}
 use Rattle.htmd_law_returning.proofs.BareLemmas.{followed-none}
 use Rattle.htmd_law_returning.proofs.StartLemmas.{false-true}
+use Rattle.htmd_law_returning.proofs.OrderLemmas.{is_ordered, is_ordered_tree, ordered-next}
 use lib.Utf8.{encode}
 
 -- ---- from the trees to those with numbers
@@ -37,12 +41,13 @@ pub record IsText (f : NumberedForest) (s : List ℕ) (ts : ValueForest) : Type 
   pub is : f ≡ page.more (page.text id s) rest
   pub others : value_forest rest ≡ ts
 
--- or one element without attributes and others
-pub record IsElement (f : NumberedForest) (name : List ℕ) (content ts : ValueForest) : Type 0 where
+-- or one element and others
+pub record IsElement (f : NumberedForest) (name : List ℕ) (attributes : List AttributePair) (content ts : ValueForest)
+    : Type 0 where
   pub id : ℕ
   pub inside : NumberedForest
   pub rest : NumberedForest
-  pub is : f ≡ page.more (page.element id name [] inside) rest
+  pub is : f ≡ page.more (page.element id name attributes inside) rest
   pub within : value_forest inside ≡ content
   pub others : value_forest rest ≡ ts
 
@@ -64,14 +69,15 @@ from-text (page.more (page.text id u) f) s ts e = record {
 from-text (page.more (page.comment id u) f) s ts e = (cc)
 from-text (page.more (page.element id name attributes children) f) s ts e = (cc)
 
-pub from-element : (f : NumberedForest) (name : List ℕ) (content ts : ValueForest)
-    → value_forest f ≡ value.more (value.element name [] content) ts → IsElement f name content ts
-from-element page.none name content ts e = (cc)
-from-element (page.more (page.document id children) f) name content ts e = (cc)
-from-element (page.more (page.doctype id) f) name content ts e = (cc)
-from-element (page.more (page.text id u) f) name content ts e = (cc)
-from-element (page.more (page.comment id u) f) name content ts e = (cc)
-from-element (page.more (page.element id known attributes children) f) name content ts e = record {
+pub from-element : (f : NumberedForest) (name : List ℕ) (attributes : List AttributePair) (content ts : ValueForest)
+    → value_forest f ≡ value.more (value.element name attributes content) ts
+    → IsElement f name attributes content ts
+from-element page.none name attributes content ts e = (cc)
+from-element (page.more (page.document id children) f) name attributes content ts e = (cc)
+from-element (page.more (page.doctype id) f) name attributes content ts e = (cc)
+from-element (page.more (page.text id u) f) name attributes content ts e = (cc)
+from-element (page.more (page.comment id u) f) name attributes content ts e = (cc)
+from-element (page.more (page.element id known pairs children) f) name attributes content ts e = record {
   id = id;
   inside = children;
   rest = f;
@@ -96,8 +102,8 @@ IsFresh before = is_copied before [] ≡ false
 pub fresh-first : IsFresh None
 fresh-first = refl
 
-pub fresh-next : IsFresh (Some [])
-fresh-next = refl
+pub fresh-next : (attributes : List AttributePair) → IsFresh (Some attributes)
+fresh-next attributes = refl
 
 abbrev pub frame : (html head body : ℕ) → Simples → Simples
 frame html head body ts =
@@ -144,6 +150,10 @@ html-is all html head body inside rest f e g h =
     e ∙ (ap (λ x. page.more (page.element html (codes "html") [] x) rest) g
     ∙ ap (page.more (page.element html (codes "html") [] (in_html head body f))) h)
 
+pub and-false : (b : Bool) → (b && false) ≡ false
+and-false true = refl
+and-false false = refl
+
 module _ (scripting is_rich : Bool) where
   -- nodes beside each other
   abbrev pub shown_of : Option (List AttributePair) → NumberedForest → Simples
@@ -175,11 +185,47 @@ module _ (scripting is_rich : Bool) where
       rw h (ap (λ ts. more (made id role.BlockQuote [] ts) (shown_of (Some []) f))
       (plain-content id (shown_of None inside)))
 
+  pub bullets-shown : (before : Option (List AttributePair)) (id : ℕ) (inside f : NumberedForest) → IsFresh before
+      → shown_of before (page.more (page.element id (codes "ul") [] inside) f)
+      ≡ more (made id role.BulletList [] (shown_of None inside)) (shown_of (Some []) f)
+  unfolding shown role_of
+  bullets-shown before id inside f h =
+      rw h (ap (λ ts. more (made id role.BulletList [] ts) (shown_of (Some []) f))
+      (plain-content id (shown_of None inside)))
+
+  pub numbers-shown : (before : Option (List AttributePair)) (id : ℕ) (attributes : List AttributePair)
+      (inside f : NumberedForest) → is_copied before attributes ≡ false
+      → has_class mathjax_words attributes ≡ false
+      → shown_of before (page.more (page.element id (codes "ol") attributes inside) f)
+      ≡ more (made id role.NumberedList attributes (shown_of None inside)) (shown_of (Some attributes) f)
+  unfolding shown role_of
+  numbers-shown before id attributes inside f h e =
+      rw (h, e) (ap (λ ts. more (made id role.NumberedList attributes ts) (shown_of (Some attributes) f))
+      (plain-content id (shown_of None inside)))
+
+  pub item-shown : (before : Option (List AttributePair)) (id : ℕ) (inside f : NumberedForest) → IsFresh before
+      → shown_of before (page.more (page.element id (codes "li") [] inside) f)
+      ≡ more (made id role.Item [] (shown_of None inside)) (shown_of (Some []) f)
+  unfolding shown role_of
+  item-shown before id inside f h =
+      rw h (ap (λ ts. more (made id role.Item [] ts) (shown_of (Some []) f))
+      (plain-content id (shown_of None inside)))
+
   pub break-shown : (before : Option (List AttributePair)) (id : ℕ) (inside f : NumberedForest) → IsFresh before
       → shown_of before (page.more (page.element id (codes "hr") [] inside) f)
       ≡ more (made id role.ThematicBreak [] none) (shown_of (Some []) f)
   unfolding shown role_of
   break-shown before id inside f h = rw h refl
+
+  pub pre-shown : (before : Option (List AttributePair)) (id own line : ℕ) (attributes : List AttributePair)
+      (s : List ℕ) (f : NumberedForest) → IsFresh before
+      → shown_of before (page.more (page.element id (codes "pre") []
+      (page.more (page.element own (codes "code") attributes (page.more (page.text line s) page.none)) page.none)) f)
+      ≡ more (made id role.Preformatted []
+      (more (made own role.Code attributes (more (text (shown_text s)) none)) none)) (shown_of (Some []) f)
+  unfolding shown role_of table_role heading_or_block block_role inline_role
+  pre-shown before id own line attributes s f h =
+      rw (h, and-false (has_class mathjax_words attributes)) refl
 
   -- nodes in a heading
   abbrev pub shown_in_heading : NumberedForest → Simples
@@ -231,21 +277,22 @@ module _ (scripting is_rich : Bool) where
     pub inside : NumberedForest
     pub is : shown_in (whole_sight scripting is_rich) t ≡ frame html head body (shown_of None inside)
     pub within : value_forest inside ≡ trees
+    pub ordered : is_ordered 0 inside ≡ true
 
   pub framed : (t : NumberedTree) (trees : ValueForest) → value_tree t ≡ value.document (skeleton trees)
-      → IsFramed t trees
-  framed (page.doctype id) trees e = (cc)
-  framed (page.text id s) trees e = (cc)
-  framed (page.comment id s) trees e = (cc)
-  framed (page.element id name attributes children) trees e = (cc)
-  framed (page.document id children) trees e =
+      → is_ordered_tree t ≡ true → IsFramed t trees
+  framed (page.doctype id) trees e o = (cc)
+  framed (page.text id s) trees e o = (cc)
+  framed (page.comment id s) trees e o = (cc)
+  framed (page.element id name attributes children) trees e o = (cc)
+  framed (page.document id children) trees e o =
       let content : ValueForest = value.more (value.element (codes "head") [] value.none)
       (value.more (value.element (codes "body") [] trees) value.none) in
       let same : value_forest children ≡ value.more (value.element (codes "html") [] content) value.none = cc in
-      let html = from-element children (codes "html") content value.none same in
-      let head = from-element html.inside (codes "head") value.none
+      let html = from-element children (codes "html") [] content value.none same in
+      let head = from-element html.inside (codes "head") [] value.none
       (value.more (value.element (codes "body") [] trees) value.none) html.within in
-      let body = from-element head.rest (codes "body") trees value.none head.others in
+      let body = from-element head.rest (codes "body") [] trees value.none head.others in
       let at_body = body-is head.rest body.id body.rest body.inside body.is (from-none body.rest body.others) in
       let at_head = head-is html.inside head.id body.id head.inside head.rest body.inside head.is
       (from-none head.inside head.within) at_body in
@@ -259,4 +306,11 @@ module _ (scripting is_rich : Bool) where
         is = ap (λ g. shown_in (whole_sight scripting is_rich) (page.document id g)) at_html
             ∙ html-shown id html.id head.id body.id body.inside;
         within = body.within;
+        ordered =
+            let frame_in : NumberedForest = in_html head.id body.id body.inside in
+            let all = ordered-next 0 children (page.element html.id (codes "html") [] frame_in) page.none at_html o in
+            let heads = ordered-next 0 frame_in (page.element head.id (codes "head") [] page.none)
+            (in_head body.id body.inside) refl all.inside in
+            (ordered-next (suc head.id) (in_head body.id body.inside)
+            (page.element body.id (codes "body") [] body.inside) page.none refl heads.rest).inside;
       }

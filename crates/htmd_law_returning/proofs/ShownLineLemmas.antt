@@ -1,134 +1,96 @@
 -- What shows of the trees of a line, and what that gives.
-use Rattle.std.proofs.Common.{◌≡◌, ℕ, Bool, true, false, ◌&&◌, ◌||◌, ◌==◌, List, [], ◌∷◌}
+use Rattle.std.proofs.Common.{◌≡◌, ℕ, Bool, true, false, ◌&&◌, List, [], ◌∷◌}
 use Rattle.std.proofs.Common.{◌++◌, refl, sym, ap, ◌∙◌}
 use Rattle.std.proofs.Common.{arith, codes, Option, Some, None}
+use Rattle.std.proofs.Common.{suc, ◌+◌, ◌*◌, ◌≤◌, cond, subst}
+use Rattle.std.proofs.Common.{◌||◌}
+use Rattle.std.proofs.Common.{not}
+use Rattle.htmd_lexical.specs.Characters.{line_feed}
+use Rattle.htmd_flow.specs.Paragraphs.{Writing, fed, fed_all}
 use Rattle.std.specs.List.{list_any}
 use Rattle.std.proofs.lemmas.Bool.{and_parts}
-use Rattle.std.proofs.lemmas.Bool.Decides.{nat_tests}
+use Rattle.std.specs.Option.{unwrap_or}
+use Rattle.std.proofs.lemmas.List.{append-nil}
 use Rattle.htmd_lexical.specs.AttributePairs.{AttributePair}
 use Rattle.htmd_lexical.specs.CharacterClasses.{is_empty}
-use Rattle.htmd_values.specs.ValueTrees.{ValueForest}
 use Rattle.htmd_values.specs.ValueTrees as value
 use Rattle.htmd_nodes.specs.NumberedTrees.{NumberedForest, value_forest}
 use Rattle.htmd_nodes.specs.NumberedTrees as page
-use Rattle.htmd_document.specs.declared.document.Format.TheVariants as marked
+use Rattle.htmd_document.specs.declared.document.Format.TheVariants as format
 use Rattle.htmd_document.specs.Documents.{text, code, formatted, link, image, anchor, line_break, task}
 use Rattle.htmd_document.specs.Documents.{Inlines, no_inlines, inline}
 use Rattle.htmd_document.specs.Formats.{Format, Emphasis, Strong, Deleted, Superscript, Subscript, Inserted, Underlined}
-use Rattle.htmd_document.specs.Formats.{Marked, Small, Keyboard, Abbreviation, is_same_kind, number}
-use Rattle.htmd_document.specs.NormalInlines.{is_text, is_trimmed, are_normal, is_barred, is_around}
+use Rattle.htmd_document.specs.Formats.{Marked, Small, Keyboard, Abbreviation}
+use Rattle.htmd_document.specs.NormalInlines.{is_text, is_trimmed, are_normal}
 use Rattle.htmd_document.specs.NormalInlines.{is_line}
-use Rattle.htmd_flow.specs.Contexts.{Context, bare_in, inside_format, is_format}
+use Rattle.htmd_flow.specs.Contexts.{is_format}
+use Rattle.htmd_flow.specs.Contexts.{is_link, inside_link}
 use Rattle.htmd_flow.specs.Flows.{node_of, nodes_of, flow_all}
 use Rattle.htmd_flow.specs.Parts as part
 use Rattle.htmd_flow.specs.Parts.{Around, Part}
-use Rattle.htmd_shown.specs.declared.role.Role.{Role}
+use Rattle.htmd_flow.specs.Levels.{list_of}
+use Rattle.htmd_shown.specs.Marks as marks
 use Rattle.htmd_shown.specs.declared.role.Role.TheVariants as role
+use Rattle.htmd_shown.specs.Attributes.{address, title_of, description_of}
+use Rattle.htmd_shown.specs.Attributes.{is_to_part}
 use Rattle.htmd_shown.specs.Facts.{made}
-use Rattle.htmd_shown.specs.Roles.{role_of, table_role, heading_or_block, block_role, inline_role}
+use Rattle.htmd_shown.specs.Facts.{facts_of, leaves_among}
+use Rattle.htmd_shown.specs.Roles.{role_of, table_role, heading_or_block, block_role, inline_role, element_role}
+use Rattle.htmd_shown.specs.Roles.{is_paragraph}
 use Rattle.htmd_shown.specs.Shown.{nowhere, shown, shown_all}
+use Rattle.htmd_shown.specs.Shown.{marked, raised}
 use Rattle.htmd_shown.specs.ShownTexts.{shown_text}
 use Rattle.htmd_shown.specs.SimpleTrees.{Simple, Simples, none, more}
 use Rattle.htmd_shown.specs.SimpleTrees as simple
+use Rattle.htmd_shown.specs.Spaces.{is_blank_text}
+use Rattle.htmd_shown.specs.Kinds.{has}
 use Rattle.htmd_law_rendering.specs.SpelledTrees.{value_forest as forest_of}
 use Rattle.htmd_law_rendering.specs.SpelledTrees as spelled
-use Rattle.htmd_law_rendering.specs.RenderedTrees.{text_before, format_name, pairs_of_format}
+use Rattle.htmd_law_rendering.specs.RenderedTrees.{text_before, format_name, pairs_of_image}
+use Rattle.htmd_law_rendering.specs.RenderedTrees.{encoded_address}
+use Rattle.htmd_law_rendering.specs.RenderedTrees.{pairs_of_link}
 use Rattle.htmd_law_returning.specs.ReturningLaws.{whole_sight}
 use Rattle.htmd_law_returning.specs.SettledDocuments.{is_marked}
-use Rattle.htmd_law_returning.specs.SettledDocuments.{are_settled_inlines}
+use Rattle.htmd_law_returning.specs.SettledDocuments.{weight_among, count_among}
+use Rattle.htmd_law_returning.specs.SettledDocuments.{letters_in}
+use Rattle.htmd_law_returning.proofs.AddressLemmas.{title-stays, own-address}
+use Rattle.htmd_law_returning.proofs.AddressLemmas.{image-fresh, image-nameless}
+use Rattle.htmd_law_returning.proofs.AddressLemmas.{link-fresh, link-nameless, link-title, link-address, link-size}
+use Rattle.htmd_law_returning.proofs.AddressLemmas.{image-letters}
 use Rattle.htmd_law_returning.proofs.BareLemmas.{is_bare, are_bare}
-use Rattle.htmd_law_returning.proofs.LineLemmas.{parts_in, normal-one, settled-one}
-use Rattle.htmd_law_returning.proofs.LineLemmas.{IsFormat, format-normal}
+use Rattle.htmd_law_returning.proofs.BareLemmas.{has_no_name}
+use Rattle.htmd_law_returning.proofs.PieceLemmas.{ArePieces, none_yet, none-follows, none-pieced, more-pieced}
+use Rattle.htmd_law_returning.proofs.PieceLemmas.{text-step, code-step, image-step, inner-step, break-pieced}
+use Rattle.htmd_law_returning.proofs.PieceLemmas.{end-pieced, text-end-pieced}
+use Rattle.htmd_law_returning.proofs.LineLemmas.{parts_in}
+use Rattle.htmd_law_returning.proofs.LineFormLemmas.{normal-one, settled-one}
+use Rattle.htmd_law_returning.proofs.LineFormLemmas.{IsFormat, format-normal}
+use Rattle.htmd_law_returning.proofs.LineLemmas.{Numbers, unknown, numbered}
+use Rattle.htmd_law_returning.proofs.LineLemmas.{is_rising, rise-more}
+use Rattle.htmd_law_returning.proofs.LineFormLemmas.{IsLink, link-normal}
+use Rattle.htmd_law_returning.proofs.LineFormLemmas.{code-normal}
 use Rattle.htmd_law_returning.proofs.PageLemmas.{from-none, from-text, from-element, plain-content, IsFresh}
 use Rattle.htmd_law_returning.proofs.PageLemmas.{fresh-first}
 use Rattle.htmd_law_returning.proofs.PageLemmas.{fresh-next}
 use Rattle.htmd_law_returning.proofs.TextLemmas.{IsLine, text-line}
-use Rattle.htmd_law_returning.proofs.TreesLemmas.{line_trees}
+use Rattle.htmd_law_returning.proofs.TreesLemmas.{line_trees, begins_apart, line-end-apart, settled-shape}
 use Rattle.htmd_law_returning.proofs.StartLemmas.{false-true, true-false}
-
--- ---- formats around
-
--- a place in a line or not, with so many quotes around
-abbrev pub place : Bool → Bool → ℕ → List Around → Context
-place flat is_rich n around = record (bare_in is_rich) { around = around; is_flat = flat; nested = n }
-
--- a format that may stand here is none of those around
-abbrev pub Covers : List Around → List Format → Type 0
-Covers around fs = (f : Format) → is_marked f ≡ true → is_barred fs f ≡ false
-    → list_any (is_format f) around ≡ false
-
-pub covers-none : Covers [] []
-covers-none f m b = refl
-
-either-false : (a b : Bool) → (a || b) ≡ false → (a ≡ false) × (b ≡ false)
-either-false true b e = true-false e
-either-false false b e = (refl, e)
-
-any-more : (p : Around → Bool) (xs : List Around) (x : Around) → list_any p xs ≡ false → p x ≡ false
-    → list_any p (xs ++ x ∷ []) ≡ false
-any-more p [] x h e = ap (λ b. b || false) e
-any-more p (a ∷ xs) x h e =
-    let parts = either-false (p a) (list_any p xs) h in
-    ap (λ b. b || list_any p (xs ++ x ∷ [])) parts.0 ∙ any-more p xs x parts.1 e
-
-barred-around : (fs : List Format) (f : Format) → is_marked f ≡ true → is_barred fs f ≡ is_around fs f
-barred-around fs Emphasis m = refl
-barred-around fs Strong m = refl
-barred-around fs Deleted m = refl
-barred-around fs Superscript m = false-true m
-barred-around fs Subscript m = false-true m
-barred-around fs Inserted m = false-true m
-barred-around fs Underlined m = false-true m
-barred-around fs Marked m = false-true m
-barred-around fs Small m = false-true m
-barred-around fs Keyboard m = false-true m
-barred-around fs (Abbreviation title) m = false-true m
-
-other-number : (m n : ℕ) → (m == n) ≡ false → (n == m) ≡ false
-other-number m n h = grind (arith, nat_tests, h)
-
-covers-more : (around : List Around) (fs : List Format) (g : Format) → Covers around fs
-    → Covers (around ++ part.formatted g ∷ []) (g ∷ fs)
-covers-more around fs g h f m b =
-    let parts = either-false (is_same_kind g f) (is_around fs f) (sym (barred-around (g ∷ fs) f m) ∙ b) in
-    any-more (is_format f) around (part.formatted g) (h f m (barred-around fs f m ∙ parts.1))
-    (other-number (number g) (number f) parts.0)
-
-inside-marked : (flat is_rich : Bool) (n : ℕ) (around : List Around) (f : Format) → is_marked f ≡ true
-    → list_any (is_format f) around ≡ false
-    → inside_format f (place flat is_rich n around) ≡ place flat is_rich n (around ++ part.formatted f ∷ [])
-inside-marked flat is_rich n around Emphasis m h = rw h refl
-inside-marked flat is_rich n around Strong m h = rw h refl
-inside-marked flat is_rich n around Deleted m h = rw h refl
-inside-marked flat is_rich n around Superscript m h = false-true m
-inside-marked flat is_rich n around Subscript m h = false-true m
-inside-marked flat is_rich n around Inserted m h = false-true m
-inside-marked flat is_rich n around Underlined m h = false-true m
-inside-marked flat is_rich n around Marked m h = false-true m
-inside-marked flat is_rich n around Small m h = false-true m
-inside-marked flat is_rich n around Keyboard m h = false-true m
-inside-marked flat is_rich n around (Abbreviation title) m h = false-true m
-
--- ---- what shows
-
-abbrev format_role : Format → Role
-format_role Emphasis = role.Format marked.Emphasis
-format_role Strong = role.Format marked.Strong
-format_role Deleted = role.Format marked.Deleted
-format_role f = role.Plain
-
-no-format-pairs : (f : Format) → is_marked f ≡ true → pairs_of_format f ≡ []
-no-format-pairs Emphasis m = refl
-no-format-pairs Strong m = refl
-no-format-pairs Deleted m = refl
-no-format-pairs Superscript m = refl
-no-format-pairs Subscript m = refl
-no-format-pairs Inserted m = refl
-no-format-pairs Underlined m = refl
-no-format-pairs Marked m = refl
-no-format-pairs Small m = refl
-no-format-pairs Keyboard m = refl
-no-format-pairs (Abbreviation title) m = false-true m
+use Rattle.htmd_law_returning.proofs.CostLemmas.{AllSpend, spend-none, spend-text, spend-image, spend-more}
+use Rattle.htmd_law_returning.proofs.CostLemmas.{spend-element, spend-link, leaves-more, one-leaf, leaves-behind}
+use Rattle.htmd_law_returning.proofs.CostLemmas.{inline-leaves, count-light}
+use Rattle.htmd_document_of_tree.specs.Limits.{characters, always_written}
+use Rattle.htmd_law_returning.proofs.InlineLemmas.{place, Covers, covers-more, covers-link, IsFree, free-more}
+use Rattle.htmd_law_returning.proofs.InlineLemmas.{free-link, inside-marked, format_role, IsInlineRole, format-inline}
+use Rattle.htmd_law_returning.proofs.InlineLemmas.{no-format-pairs, both-fed, line-end-text}
+use Rattle.htmd_law_returning.proofs.InlineLemmas.{line-end-shown, line-end-fed, left-light, right-light, at-most}
+use Rattle.htmd_law_returning.proofs.InlineLemmas.{at-most-suc, broken-spent, broken-counted, image-kept}
+use Rattle.htmd_law_returning.proofs.InlineLemmas.{format-lined}
+use Rattle.htmd_law_returning.proofs.InlineLemmas.{line-end-letters, no-sign}
+use Rattle.htmd_law_returning.proofs.InlineLemmas.{line-end-unseen}
+use Rattle.htmd_law_returning.proofs.InlineLemmas.{later-number}
+use Rattle.htmd_law_returning.proofs.OrderLemmas.{is_ordered, ordered-next, ordered-less}
+use Rattle.htmd_law_returning.proofs.HeldLemmas.{are_black_ended}
+use Rattle.htmd_law_returning.proofs.HeldLemmas.{are_held}
 
 module _ (scripting is_rich : Bool) where
   -- nodes in a heading or not
@@ -140,12 +102,13 @@ module _ (scripting is_rich : Bool) where
   unfolding shown
   none-at h before = refl
 
-  text-at : (h : Bool) (before : Option (List AttributePair)) (id : ℕ) (s : List ℕ) (f : NumberedForest)
+  pub text-at : (h : Bool) (before : Option (List AttributePair)) (id : ℕ) (s : List ℕ) (f : NumberedForest)
       → shown_at h before (page.more (page.text id s) f) ≡ more (simple.text (shown_text s)) (shown_at h before f)
   unfolding shown
   text-at h before id s f = refl
 
-  code-at : (h : Bool) (before : Option (List AttributePair)) (id : ℕ) (inside f : NumberedForest) → IsFresh before
+  pub code-at : (h : Bool) (before : Option (List AttributePair)) (id : ℕ) (inside f : NumberedForest)
+      → IsFresh before
       → shown_at h before (page.more (page.element id (codes "code") [] inside) f)
       ≡ more (made id role.Code [] (shown_at h None inside)) (shown_at h (Some []) f)
   unfolding shown role_of table_role heading_or_block block_role inline_role
@@ -156,28 +119,82 @@ module _ (scripting is_rich : Bool) where
       rw e (ap (λ ts. more (made id role.Code [] ts) (shown_at false (Some []) f))
       (plain-content id (shown_at false None inside)))
 
-  format-at : (h : Bool) (before : Option (List AttributePair)) (id : ℕ) (inside f : NumberedForest) (m : Format)
+  pub break-at : (h : Bool) (before : Option (List AttributePair)) (id : ℕ) (inside f : NumberedForest)
+      → IsFresh before
+      → shown_at h before (page.more (page.element id (codes "br") [] inside) f)
+      ≡ more (made id role.LineBreak [] none) (shown_at h (Some []) f)
+  unfolding shown role_of table_role heading_or_block block_role inline_role
+  break-at true before id inside f e = rw e refl
+  break-at false before id inside f e = rw e refl
+
+  pub image-at : (h : Bool) (before : Option (List AttributePair)) (id : ℕ) (inside f : NumberedForest) (a : List ℕ)
+      (title : Option (List ℕ)) (d : List ℕ)
+      → shown_at h before (page.more (page.element id (codes "img") (pairs_of_image a title d) inside) f)
+      ≡ more (simple.image (Some (encoded_address a)) (pairs_of_image a title d))
+      (shown_at h (Some (pairs_of_image a title d)) f)
+  unfolding shown role_of table_role heading_or_block block_role inline_role element_role
+  image-at true before id inside f a None d = rw (image-fresh before a None d, own-address a None d) refl
+  image-at true before id inside f a (Some s) d = rw (image-fresh before a (Some s) d, own-address a (Some s) d) refl
+  image-at false before id inside f a None d = rw (image-fresh before a None d, own-address a None d) refl
+  image-at false before id inside f a (Some s) d = rw (image-fresh before a (Some s) d, own-address a (Some s) d) refl
+
+  pub link-plain : (before : Option (List AttributePair)) (id : ℕ) (inside f : NumberedForest) (a : List ℕ)
+      (title : Option (List ℕ))
+      → shown_at false before (page.more (page.element id (codes "a") (pairs_of_link a title) inside) f)
+      ≡ more (made id role.Link (pairs_of_link a title) (shown_at false None inside))
+      (shown_at false (Some (pairs_of_link a title)) f)
+  unfolding shown role_of table_role heading_or_block block_role inline_role
+  link-plain before id inside f a None =
+      rw (link-fresh before a None)
+      (ap (λ ts. more (made id role.Link (pairs_of_link a None) ts) (shown_at false (Some (pairs_of_link a None)) f))
+      (plain-content id (shown_at false None inside)))
+  link-plain before id inside f a (Some s) =
+      rw (link-fresh before a (Some s))
+      (ap (λ ts. more (made id role.Link (pairs_of_link a (Some s)) ts)
+      (shown_at false (Some (pairs_of_link a (Some s))) f))
+      (plain-content id (shown_at false None inside)))
+
+  link-at : (h : Bool) (before : Option (List AttributePair)) (id : ℕ) (inside f : NumberedForest) (a : List ℕ)
+      (title : Option (List ℕ))
+      → (is_to_part (address (encoded_address a))
+      && marks.is_mark marks.is_usual_sign (marked false (raised [] id (shown_at h None inside)))) ≡ false
+      → shown_at h before (page.more (page.element id (codes "a") (pairs_of_link a title) inside) f)
+      ≡ more (made id role.Link (pairs_of_link a title) (shown_at h None inside))
+      (shown_at h (Some (pairs_of_link a title)) f)
+  unfolding shown role_of table_role heading_or_block block_role inline_role
+  link-at true before id inside f a None e =
+      rw (link-fresh before a None, e)
+      (ap (λ ts. more (made id role.Link (pairs_of_link a None) ts) (shown_at true (Some (pairs_of_link a None)) f))
+      (plain-content id (shown_at true None inside)))
+  link-at true before id inside f a (Some s) e =
+      rw (link-fresh before a (Some s), e)
+      (ap (λ ts. more (made id role.Link (pairs_of_link a (Some s)) ts)
+      (shown_at true (Some (pairs_of_link a (Some s))) f))
+      (plain-content id (shown_at true None inside)))
+  link-at false before id inside f a title e = link-plain before id inside f a title
+
+  pub format-at : (h : Bool) (before : Option (List AttributePair)) (id : ℕ) (inside f : NumberedForest) (m : Format)
       → is_marked m ≡ true → IsFresh before
       → shown_at h before (page.more (page.element id (format_name m) [] inside) f)
       ≡ more (made id (format_role m) [] (shown_at h None inside)) (shown_at h (Some []) f)
   unfolding shown role_of table_role heading_or_block block_role inline_role
   format-at true before id inside f Emphasis m e =
-      rw e (ap (λ ts. more (made id (role.Format marked.Emphasis) [] ts) (shown_at true (Some []) f))
+      rw e (ap (λ ts. more (made id (role.Format format.Emphasis) [] ts) (shown_at true (Some []) f))
       (plain-content id (shown_at true None inside)))
   format-at false before id inside f Emphasis m e =
-      rw e (ap (λ ts. more (made id (role.Format marked.Emphasis) [] ts) (shown_at false (Some []) f))
+      rw e (ap (λ ts. more (made id (role.Format format.Emphasis) [] ts) (shown_at false (Some []) f))
       (plain-content id (shown_at false None inside)))
   format-at true before id inside f Strong m e =
-      rw e (ap (λ ts. more (made id (role.Format marked.Strong) [] ts) (shown_at true (Some []) f))
+      rw e (ap (λ ts. more (made id (role.Format format.Strong) [] ts) (shown_at true (Some []) f))
       (plain-content id (shown_at true None inside)))
   format-at false before id inside f Strong m e =
-      rw e (ap (λ ts. more (made id (role.Format marked.Strong) [] ts) (shown_at false (Some []) f))
+      rw e (ap (λ ts. more (made id (role.Format format.Strong) [] ts) (shown_at false (Some []) f))
       (plain-content id (shown_at false None inside)))
   format-at true before id inside f Deleted m e =
-      rw e (ap (λ ts. more (made id (role.Format marked.Deleted) [] ts) (shown_at true (Some []) f))
+      rw e (ap (λ ts. more (made id (role.Format format.Deleted) [] ts) (shown_at true (Some []) f))
       (plain-content id (shown_at true None inside)))
   format-at false before id inside f Deleted m e =
-      rw e (ap (λ ts. more (made id (role.Format marked.Deleted) [] ts) (shown_at false (Some []) f))
+      rw e (ap (λ ts. more (made id (role.Format format.Deleted) [] ts) (shown_at false (Some []) f))
       (plain-content id (shown_at false None inside)))
   format-at h before id inside f Superscript m e = false-true m
   format-at h before id inside f Subscript m e = false-true m
@@ -203,6 +220,19 @@ module _ (scripting is_rich : Bool) where
       ≡ part.run s around true ∷ gives_at flat n around ts
   unfolding node_of
   code-gives flat n around id s ts = refl
+
+  break-gives : (flat : Bool) (n : ℕ) (around : List Around) (id : ℕ) (ts : Simples)
+      → gives_at flat n around (more (made id role.LineBreak [] none) ts) ≡ part.break ∷ gives_at flat n around ts
+  unfolding node_of
+  break-gives flat n around id ts = refl
+
+  image-gives : (flat : Bool) (n : ℕ) (around : List Around) (s : List ℕ) (attributes : List AttributePair)
+      (ts : Simples)
+      → gives_at flat n around (more (simple.image (Some s) attributes) ts)
+      ≡ part.picture (address s) (title_of attributes) (description_of attributes) around
+      ∷ gives_at flat n around ts
+  unfolding node_of
+  image-gives flat n around s attributes ts = refl
 
   none-gives : (flat : Bool) (n : ℕ) (around : List Around) → gives_at flat n around none ≡ []
   unfolding node_of
@@ -231,6 +261,20 @@ module _ (scripting is_rich : Bool) where
   format-gives flat n around id Keyboard content ts m h = false-true m
   format-gives flat n around id (Abbreviation title) content ts m h = false-true m
 
+  link-gives : (flat : Bool) (n : ℕ) (around : List Around) (id : ℕ) (a : List ℕ) (title : Option (List ℕ))
+      (content ts : Simples) → list_any is_link around ≡ false → address (encoded_address a) ≡ a
+      → title_of (pairs_of_link a title) ≡ title
+      → gives_at flat n around (more (made id role.Link (pairs_of_link a title) content) ts)
+      ≡ gives_at flat n (around ++ part.linked id a title ∷ []) content ++ gives_at flat n around ts
+  unfolding node_of
+  link-gives flat n around id a title content ts free e t =
+      ap (λ x. flow_all (nodes_of content) (inside_link id x (title_of (pairs_of_link a title))
+      (place flat is_rich n around)) ++ gives_at flat n around ts) e
+      ∙ (ap (λ x. flow_all (nodes_of content) (inside_link id a x (place flat is_rich n around))
+      ++ gives_at flat n around ts) t
+      ∙ ap (λ b. flow_all (nodes_of content) (cond b (place flat is_rich n around)
+      (place flat is_rich n (around ++ part.linked id a title ∷ []))) ++ gives_at flat n around ts) free)
+
   format-bare : (id : ℕ) (f : Format) (content : Simples) → are_bare content ≡ true
       → is_bare (made id (format_role f) [] content) ≡ true
   format-bare id Emphasis content h = h
@@ -247,10 +291,27 @@ module _ (scripting is_rich : Bool) where
 
   -- ---- a line
 
-  pub record IsShownLine (h : Bool) (before : Option (List AttributePair)) (f : NumberedForest)
-      (around : List Around) (xs : Inlines) : Type 0 where
-    pub bare : are_bare (shown_at h before f) ≡ true
-    pub gives : (flat : Bool) (n : ℕ) → gives_at flat n around (shown_at h before f) ≡ parts_in around xs
+  -- nodes that are a line
+  pub record IsLineTree (k : ℕ) (ts : Simples) (around : List Around) (xs : Inlines) : Type 0 where
+    pub numbers : Numbers
+    pub rising : is_rising k numbers xs ≡ true
+    pub bare : are_bare ts ≡ true
+    pub gives : (flat : Bool) (n : ℕ) (w : Writing)
+        → fed_all w (gives_at flat n around ts) ≡ fed_all w (parts_in around numbers xs)
+    pub spent : AllSpend (weight_among xs) ts
+    pub counted : leaves_among ts ≤ count_among xs
+    pub pieces : ArePieces xs ts
+    pub seen : marks.letters_among ts ≡ letters_in xs
+    pub lined : list_any (has is_paragraph) (list_of ts) ≡ false
+
+  abbrev pub IsShownLine : ℕ → Bool → Option (List AttributePair) → NumberedForest → List Around → Inlines
+      → Type 0
+  IsShownLine k h before f around xs = IsLineTree k (shown_at h before f) around xs
+
+  from-line : (k : ℕ) (ts us : Simples) (around : List Around) (xs : Inlines) → ts ≡ us
+      → IsLineTree k us around xs
+      → IsLineTree k ts around xs
+  from-line k ts us around xs e own = subst (λ (vs : Simples). IsLineTree k vs around xs) (sym e) own
 
   -- the text of code
   code-text : (s : List ℕ) → is_empty s ≡ false
@@ -262,86 +323,352 @@ module _ (scripting is_rich : Bool) where
   some-text [] h = false-true (and_parts (is_line []) false (and_parts (is_line [] && false) true h).0).1
   some-text (b ∷ s) h = refl
 
-  pub line-shown-at : (xs : Inlines) (h : Bool) (before : Option (List AttributePair)) (f : NumberedForest)
-      (around : List Around) (fs : List Format) → Covers around fs → IsFresh before
-      → value_forest f ≡ line_trees xs → are_normal false fs xs ≡ true → are_settled_inlines xs ≡ true
-      → IsShownLine h before f around xs
-  line-shown-at no_inlines h before f around fs covers fresh e normal settled =
-      let is : shown_at h before f ≡ none = ap (shown_at h before) (from-none f e) ∙ none-at h before in
-      record {
-        bare = ap are_bare is;
-        gives = λ flat n. ap (gives_at flat n around) is ∙ none-gives flat n around;
-      }
-  line-shown-at (inline (text s) xs) h before f around fs covers fresh e normal settled =
-      let good = normal-one fs (text s) xs normal in
+  -- a break before a line that begins with no text
+  line-end-beside : (xs : Inlines) (k : ℕ) → begins_apart xs ≡ true → (b h : Bool)
+      (before : Option (List AttributePair))
+      (f : NumberedForest) (around : List Around) (fs : List Format)
+      → IsFresh before
+      → value_forest f ≡ line_trees (inline line_break xs) → are_normal b fs (inline line_break xs) ≡ true
+      → are_held (inline line_break xs) ≡ true
+      → is_ordered k f ≡ true
+      → ((k : ℕ) (g : NumberedForest) → is_ordered k g ≡ true → value_forest g ≡ line_trees xs
+      → are_normal b fs xs ≡ true
+      → are_held xs ≡ true → IsShownLine k h (Some []) g around xs)
+      → IsShownLine k h before f around (inline line_break xs)
+  line-end-beside xs k apart b h before f around fs fresh e normal settled o later =
+      let good = normal-one b fs line_break xs normal in
+      let own = settled-one line_break xs settled in
+      let found = from-element f (codes "br") [] value.none (value.more (value.text (line_feed ∷ [])) (line_trees xs))
+      (e ∙ ap (λ ts. value.more (value.element (codes "br") [] value.none) (forest_of ts))
+      (line-end-apart xs (settled-shape xs own.rest) apart)) in
+      let line = from-text found.rest (line_feed ∷ []) (line_trees xs) found.others in
+      let order = ordered-next k f (page.element found.id (codes "br") [] found.inside) found.rest found.is o in
+      let behind = ordered-next (suc found.id) found.rest (page.text line.id
+      (line_feed ∷ [])) line.rest line.is order.rest in
+      let rest = later (suc found.id) line.rest
+      (ordered-less (suc found.id) (suc line.id) line.rest (later-number found.id line.id behind.least) behind.rest)
+      line.others good.rest own.rest in
+      let ts : Simples = shown_at h (Some []) line.rest in
+      let us : Simples = more (simple.text (line_feed ∷ [])) ts in
+      let is : shown_at h before f ≡ more (made found.id role.LineBreak [] none) us =
+      ap (shown_at h before) found.is
+      ∙ (break-at h before found.id found.inside found.rest fresh
+      ∙ ap (more (made found.id role.LineBreak [] none)) (ap (shown_at h (Some [])) line.is
+      ∙ (text-at h (Some []) line.id (line_feed ∷ []) line.rest
+      ∙ ap (λ t. more (simple.text t) ts) line-end-text))) in
+      from-line k (shown_at h before f) (more (made found.id role.LineBreak [] none) us) around
+      (inline line_break xs) is
+      (record {
+        numbers = numbered found.id unknown rest.numbers;
+        rising = rise-more k found.id unknown rest.numbers line_break xs order.least refl rest.rising;
+        bare = rest.bare;
+        gives = λ flat n w. ap (fed_all w) (break-gives flat n around found.id us
+            ∙ ap (λ ps. part.break ∷ ps) (text-gives flat n around (line_feed ∷ []) ts))
+            ∙ rest.gives flat n (fed (fed w part.break) (part.run (line_feed ∷ []) around false));
+        spent = broken-spent found.id (weight_among xs) (line_feed ∷ []) ts rest.spent;
+        counted = broken-counted found.id (count_among xs) (line_feed ∷ []) ts rest.counted;
+        pieces = break-pieced xs found.id us own.beside good.meets_next (end-pieced xs ts rest.pieces);
+        seen = ap (λ x. x ++ marks.letters_among ts) line-end-unseen ∙ rest.seen;
+        lined = rest.lined;
+      })
+
+  -- a break before a text, which has the line's end at its beginning
+  line-end-before : (t : List ℕ) (xs : Inlines) (k : ℕ) (b h : Bool) (before : Option (List AttributePair))
+      (f : NumberedForest) (around : List Around) (fs : List Format)
+      → IsFresh before
+      → value_forest f ≡ line_trees (inline line_break (inline (text t) xs)) → are_normal b fs
+      (inline line_break (inline (text t) xs)) ≡ true
+      → are_held (inline line_break (inline (text t) xs)) ≡ true
+      → is_ordered k f ≡ true
+      → ((k : ℕ) (g : NumberedForest) → is_ordered k g ≡ true → value_forest g ≡ line_trees
+      (inline (text t) xs) → are_normal b fs
+      (inline (text t) xs) ≡ true
+      → are_held (inline (text t) xs) ≡ true → IsShownLine k h (Some []) g around (inline (text t) xs))
+      → IsShownLine k h before f around (inline line_break (inline (text t) xs))
+  line-end-before t xs k b h before f around fs fresh e normal settled o later =
+      let good = normal-one b fs line_break (inline (text t) xs) normal in
+      let own = settled-one line_break (inline (text t) xs) settled in
+      let l : IsLine t = text-line t (settled-one (text t) xs own.rest).own
+      (normal-one b fs (text t) xs good.rest).own in
+      let found = from-element f (codes "br") [] value.none
+      (value.more (value.text (line_feed ∷ t)) (line_trees xs)) e in
+      let line = from-text found.rest (line_feed ∷ t) (line_trees xs) found.others in
+      let order = ordered-next k f (page.element found.id (codes "br") [] found.inside) found.rest found.is o in
+      let without : NumberedForest = page.more (page.text line.id t) line.rest in
+      let ts : Simples = shown_at h (Some []) line.rest in
+      let bare_text : shown_at h (Some []) without ≡ more (simple.text t) ts =
+      text-at h (Some []) line.id t line.rest ∙ ap (λ s. more (simple.text s) ts) l.shown in
+      let rest : IsLineTree (suc found.id) (more (simple.text t) ts) around (inline (text t) xs) =
+      subst (λ (vs : Simples). IsLineTree (suc found.id) vs around (inline (text t) xs)) bare_text
+      (later (suc found.id) without (sym (ap (is_ordered (suc found.id)) line.is) ∙ order.rest)
+      (ap (value.more (value.text t)) line.others) good.rest own.rest) in
+      let us : Simples = more (simple.text (line_feed ∷ t)) ts in
+      let is : shown_at h before f ≡ more (made found.id role.LineBreak [] none) us =
+      ap (shown_at h before) found.is
+      ∙ (break-at h before found.id found.inside found.rest fresh
+      ∙ ap (more (made found.id role.LineBreak [] none)) (ap (shown_at h (Some [])) line.is
+      ∙ (text-at h (Some []) line.id (line_feed ∷ t) line.rest
+      ∙ ap (λ s. more (simple.text s) ts) (line-end-shown t l.shown)))) in
+      from-line k (shown_at h before f) (more (made found.id role.LineBreak [] none) us) around
+      (inline line_break (inline (text t) xs)) is
+      (record {
+        numbers = numbered found.id unknown rest.numbers;
+        rising = rise-more k found.id unknown rest.numbers line_break (inline (text t) xs) order.least refl rest.rising;
+        bare = rest.bare;
+        gives = λ flat n w. ap (fed_all w) (break-gives flat n around found.id us
+            ∙ ap (λ ps. part.break ∷ ps) (text-gives flat n around (line_feed ∷ t) ts))
+            ∙ (ap (λ v. fed_all v (gives_at flat n around ts)) (line-end-fed (fed w part.break) around t)
+            ∙ (ap (fed_all (fed (fed w part.break) (part.run (line_feed ∷ []) around false)))
+            (sym (text-gives flat n around t ts))
+            ∙ rest.gives flat n (fed (fed w part.break) (part.run (line_feed ∷ []) around false))));
+        spent = broken-spent found.id (weight_among (inline (text t) xs)) (line_feed ∷ t) ts rest.spent;
+        counted = broken-counted found.id (count_among (inline (text t) xs)) (line_feed ∷ t) ts
+            (at-most (leaves-behind (simple.text t) ts) rest.counted);
+        pieces = break-pieced (inline (text t) xs) found.id us own.beside good.meets_next
+            (text-end-pieced (inline (text t) xs) t ts rest.pieces);
+        seen = ap (λ x. x ++ marks.letters_among ts) (line-end-letters t) ∙ rest.seen;
+        lined = rest.lined;
+      })
+
+  line-end-at : (xs : Inlines) (k : ℕ) (b h : Bool) (before : Option (List AttributePair)) (f : NumberedForest)
+      (around : List Around) (fs : List Format)
+      → IsFresh before
+      → value_forest f ≡ line_trees (inline line_break xs) → are_normal b fs (inline line_break xs) ≡ true
+      → are_held (inline line_break xs) ≡ true
+      → is_ordered k f ≡ true
+      → ((k : ℕ) (g : NumberedForest) → is_ordered k g ≡ true → value_forest g ≡ line_trees xs
+      → are_normal b fs xs ≡ true
+      → are_held xs ≡ true → IsShownLine k h (Some []) g around xs)
+      → IsShownLine k h before f around (inline line_break xs)
+  line-end-at (inline (text s) xs) k b h before f around fs fresh e normal settled o later =
+      line-end-before s xs k b h before f around fs fresh e normal settled o later
+  line-end-at no_inlines k b h before f around fs fresh e normal settled o later =
+      line-end-beside no_inlines k refl b h before f around fs fresh e normal settled o later
+  line-end-at (inline (code s) xs) k b h before f around fs fresh e normal settled o later =
+      line-end-beside (inline (code s) xs) k refl b h before f around fs fresh e normal settled o later
+  line-end-at (inline (formatted m c) xs) k b h before f around fs fresh e normal settled o later =
+      line-end-beside (inline (formatted m c) xs) k refl b h before f around fs fresh e normal settled o later
+  line-end-at (inline (link a t c) xs) k b h before f around fs fresh e normal settled o later =
+      line-end-beside (inline (link a t c) xs) k refl b h before f around fs fresh e normal settled o later
+  line-end-at (inline (image a t d) xs) k b h before f around fs fresh e normal settled o later =
+      line-end-beside (inline (image a t d) xs) k refl b h before f around fs fresh e normal settled o later
+  line-end-at (inline (anchor id) xs) k b h before f around fs fresh e normal settled o later =
+      line-end-beside (inline (anchor id) xs) k refl b h before f around fs fresh e normal settled o later
+  line-end-at (inline line_break xs) k b h before f around fs fresh e normal settled o later =
+      line-end-beside (inline line_break xs) k refl b h before f around fs fresh e normal settled o later
+  line-end-at (inline (task d) xs) k b h before f around fs fresh e normal settled o later =
+      line-end-beside (inline (task d) xs) k refl b h before f around fs fresh e normal settled o later
+
+  pub line-shown-at : (xs : Inlines) (k : ℕ) (b h : Bool) (before : Option (List AttributePair)) (f : NumberedForest)
+      (around : List Around) (fs : List Format) → Covers around fs → IsFree b around → IsFresh before
+      → value_forest f ≡ line_trees xs → are_normal b fs xs ≡ true → are_held xs ≡ true
+      → weight_among xs ≤ always_written → is_ordered k f ≡ true → IsShownLine k h before f around xs
+  line-shown-at no_inlines k b h before f around fs covers free fresh e normal settled light o =
+      from-line k (shown_at h before f) none around no_inlines
+      (ap (shown_at h before) (from-none f e) ∙ none-at h before)
+      (record {
+        numbers = unknown;
+        rising = refl;
+        bare = refl;
+        gives = λ flat n w. ap (fed_all w) (none-gives flat n around);
+        spent = spend-none;
+        counted = omega arith;
+        pieces = none-pieced;
+        seen = refl;
+        lined = refl;
+      })
+  line-shown-at (inline (text s) xs) k b h before f around fs covers free fresh e normal settled light o =
+      let good = normal-one b fs (text s) xs normal in
       let own = settled-one (text s) xs settled in
       let l : IsLine s = text-line s own.own good.own in
       let found = from-text f s (line_trees xs) e in
-      let rest = line-shown-at xs h before found.rest around fs covers fresh found.others good.rest own.rest in
-      let is : shown_at h before f ≡ more (simple.text s) (shown_at h before found.rest) =
-      ap (shown_at h before) found.is
-      ∙ (text-at h before found.id s found.rest
-      ∙ ap (λ t. more (simple.text t) (shown_at h before found.rest)) l.shown) in
-      record {
-        bare = ap are_bare is ∙ rest.bare;
-        gives = λ flat n. ap (gives_at flat n around) is
-            ∙ (text-gives flat n around s (shown_at h before found.rest)
-            ∙ ap (λ ps. part.run s around false ∷ ps) (rest.gives flat n));
-      }
-  line-shown-at (inline (code s) xs) h before f around fs covers fresh e normal settled =
-      let good = normal-one fs (code s) xs normal in
+      let order = ordered-next k f (page.text found.id s) found.rest found.is o in
+      let rest = line-shown-at xs (suc found.id) b h before found.rest around fs covers free fresh found.others
+      good.rest own.rest (right-light 0 (weight_among xs) light) order.rest in
+      let ts : Simples = shown_at h before found.rest in
+      from-line k (shown_at h before f) (more (simple.text s) ts) around (inline (text s) xs)
+      (ap (shown_at h before) found.is
+      ∙ (text-at h before found.id s found.rest ∙ ap (λ t. more (simple.text t) ts) l.shown))
+      (record {
+        numbers = numbered found.id unknown rest.numbers;
+        rising = rise-more k found.id unknown rest.numbers (text s) xs order.least refl rest.rising;
+        bare = rest.bare;
+        gives = λ flat n w. ap (fed_all w) (text-gives flat n around s ts)
+            ∙ rest.gives flat n (fed w (part.run s around false));
+        spent = spend-more 0 (weight_among xs) (simple.text s) ts (spend-text s) rest.spent;
+        counted = leaves-more 1 (count_among xs) (simple.text s) ts (one-leaf (is_blank_text s)) rest.counted;
+        pieces = more-pieced (text s) xs (simple.text s) ts (λ q g. text-step q s xs l.some g) rest.pieces;
+        seen = ap (λ x. marks.letters s ++ x) rest.seen;
+        lined = rest.lined;
+      })
+  line-shown-at (inline (code s) xs) k b h before f around fs covers free fresh e normal settled light o =
+      let good = normal-one b fs (code s) xs normal in
       let own = settled-one (code s) xs settled in
       let kind = and_parts (is_text s) (is_trimmed s) good.own in
-      let l : IsLine s = text-line s own.own kind.0 in
-      let found = from-element f (codes "code") (forest_of (text_before s spelled.none)) (line_trees xs) e in
+      let known = code-normal s own.own good.own in
+      let l : IsLine s = known.line in
+      let found = from-element f (codes "code") [] (forest_of (text_before s spelled.none)) (line_trees xs) e in
+      let order = ordered-next k f (page.element found.id (codes "code") [] found.inside) found.rest found.is o in
       let inner = from-text found.inside s value.none (found.within ∙ code-text s (some-text s kind.0)) in
-      let rest = line-shown-at xs h (Some []) found.rest around fs covers fresh-next found.others good.rest own.rest in
+      let rest = line-shown-at xs (suc found.id) b h (Some []) found.rest around fs covers free
+      (fresh-next []) found.others good.rest
+      own.rest (right-light 0 (weight_among xs) light) order.rest in
+      let ts : Simples = shown_at h (Some []) found.rest in
       let content : shown_at h None found.inside ≡ more (simple.text s) none =
       ap (shown_at h None) (inner.is ∙ ap (page.more (page.text inner.id s)) (from-none inner.rest inner.others))
       ∙ (text-at h None inner.id s page.none
       ∙ (ap (more (simple.text (shown_text s))) (none-at h None) ∙ ap (λ t. more (simple.text t) none) l.shown)) in
-      let is : shown_at h before f
-      ≡ more (made found.id role.Code [] (more (simple.text s) none)) (shown_at h (Some []) found.rest) =
-      ap (shown_at h before) found.is
+      let leaf : Simples = more (simple.text s) none in
+      let tree : Simple = made found.id role.Code [] leaf in
+      from-line k (shown_at h before f) (more tree ts) around (inline (code s) xs)
+      (ap (shown_at h before) found.is
       ∙ (code-at h before found.id found.inside found.rest fresh
-      ∙ ap (λ ts. more (made found.id role.Code [] ts) (shown_at h (Some []) found.rest)) content) in
-      record {
-        bare = ap are_bare is ∙ rest.bare;
-        gives = λ flat n. ap (gives_at flat n around) is
-            ∙ (code-gives flat n around found.id s (shown_at h (Some []) found.rest)
-            ∙ ap (λ ps. part.run s around true ∷ ps) (rest.gives flat n));
-      }
-  line-shown-at (inline (formatted m c) xs) h before f around fs covers fresh e normal settled =
-      let good = normal-one fs (formatted m c) xs normal in
+      ∙ ap (λ us. more (made found.id role.Code [] us) ts) content))
+      (record {
+        numbers = numbered found.id unknown rest.numbers;
+        rising = rise-more k found.id unknown rest.numbers (code s) xs order.least refl rest.rising;
+        bare = rest.bare;
+        gives = λ flat n w. ap (fed_all w) (code-gives flat n around found.id s ts)
+            ∙ rest.gives flat n (fed w (part.run s around true));
+        spent = spend-more 0 (weight_among xs) tree ts
+            (spend-element 0 found.id role.Code (facts_of leaf) [] leaf refl
+            (spend-more 0 0 (simple.text s) none (spend-text s) spend-none)) rest.spent;
+        counted = leaves-more 1 (count_among xs) tree ts
+            (leaves-more 1 0 (simple.text s) none (one-leaf (is_blank_text s)) (omega arith)) rest.counted;
+        pieces = more-pieced (code s) xs tree ts (λ q g. code-step q s xs found.id l.some known.begins) rest.pieces;
+        seen = ap (λ x. x ++ marks.letters_among ts) (append-nil (marks.letters s)) ∙ ap
+            (λ x. marks.letters s ++ x) rest.seen;
+        lined = rest.lined;
+      })
+  line-shown-at (inline (formatted m c) xs) k b h before f around fs covers free fresh e normal settled light o =
+      let good = normal-one b fs (formatted m c) xs normal in
       let own = settled-one (formatted m c) xs settled in
-      let g : IsFormat fs m c = format-normal fs m c good.own in
-      let held = and_parts (is_marked m) (are_settled_inlines c) own.own in
-      let found = from-element f (format_name m) (line_trees c) (line_trees xs)
+      let held = and_parts (is_marked m && are_black_ended c) (are_held c) own.own in
+      let signs = and_parts (is_marked m) (are_black_ended c) held.0 in
+      let g : IsFormat b fs m c = format-normal b fs m c good.own signs.1 in
+      let found = from-element f (format_name m) [] (line_trees c) (line_trees xs)
       (e ∙ ap (λ a. value.more (value.element (format_name m) a (line_trees c)) (line_trees xs))
-      (no-format-pairs m held.0)) in
-      let within = line-shown-at c h None found.inside (around ++ part.formatted m ∷ []) (m ∷ fs)
-      (covers-more around fs m covers) fresh-first found.within g.normal held.1 in
-      let rest = line-shown-at xs h (Some []) found.rest around fs covers fresh-next found.others good.rest own.rest in
-      let is : shown_at h before f
-      ≡ more (made found.id (format_role m) [] (shown_at h None found.inside)) (shown_at h (Some []) found.rest) =
-      ap (shown_at h before) found.is ∙ format-at h before found.id found.inside found.rest m held.0 fresh in
-      record {
-        bare = ap are_bare is
-            ∙ (ap (λ b. b && are_bare (shown_at h (Some []) found.rest))
-            (format-bare found.id m (shown_at h None found.inside) within.bare) ∙ rest.bare);
-        gives = λ flat n. ap (gives_at flat n around) is
-            ∙ (format-gives flat n around found.id m (shown_at h None found.inside) (shown_at h (Some []) found.rest)
-            held.0 (covers m held.0 g.free)
-            ∙ (ap (λ ps. ps ++ gives_at flat n around (shown_at h (Some []) found.rest)) (within.gives flat n)
-            ∙ ap (λ ps. parts_in (around ++ part.formatted m ∷ []) c ++ ps) (rest.gives flat n)));
-      }
-  line-shown-at (inline (link a t c) xs) h before f around fs covers fresh e normal settled =
-      false-true (settled-one (link a t c) xs settled).own
-  line-shown-at (inline (image a t d) xs) h before f around fs covers fresh e normal settled =
-      false-true (settled-one (image a t d) xs settled).own
-  line-shown-at (inline (anchor id) xs) h before f around fs covers fresh e normal settled =
+      (no-format-pairs m signs.0)) in
+      let order = ordered-next k f (page.element found.id (format_name m) [] found.inside) found.rest found.is o in
+      let within = line-shown-at c 0 b h None found.inside (around ++ part.formatted m ∷ []) (m ∷ fs)
+      (covers-more around fs m covers) (free-more b around m free) fresh-first found.within g.normal held.1
+      (left-light (weight_among c) (weight_among xs) light) order.inside in
+      let rest = line-shown-at xs (suc found.id) b h (Some []) found.rest around fs covers free
+      (fresh-next []) found.others good.rest
+      own.rest (right-light (weight_among c) (weight_among xs) light) order.rest in
+      let ts : Simples = shown_at h (Some []) found.rest in
+      let content : Simples = shown_at h None found.inside in
+      let tree : Simple = made found.id (format_role m) [] content in
+      let kind : IsInlineRole (format_role m) = format-inline m in
+      from-line k (shown_at h before f) (more tree ts) around (inline (formatted m c) xs)
+      (ap (shown_at h before) found.is ∙ format-at h before found.id found.inside found.rest m signs.0 fresh)
+      (record {
+        numbers = numbered found.id within.numbers rest.numbers;
+        rising = rise-more k found.id within.numbers rest.numbers
+            (formatted m c) xs order.least within.rising rest.rising;
+        bare = ap (λ x. x && are_bare ts) (format-bare found.id m content within.bare) ∙ rest.bare;
+        gives = λ flat n w. ap (fed_all w) (format-gives flat n around found.id m content ts signs.0
+            (covers m signs.0 g.free))
+            ∙ both-fed w (gives_at flat n (around ++ part.formatted m ∷ []) content)
+            (parts_in (around ++ part.formatted m ∷ []) within.numbers c)
+            (gives_at flat n around ts) (parts_in around rest.numbers xs) (within.gives flat n w) (rest.gives flat n);
+        spent = spend-more (weight_among c) (weight_among xs) tree ts
+            (spend-element (weight_among c) found.id (format_role m) (facts_of content) [] content kind.carries
+            within.spent) rest.spent;
+        counted = leaves-more (count_among c) (count_among xs) tree ts
+            (subst (λ (l : ℕ). l ≤ count_among c)
+            (sym (inline-leaves found.id (format_role m) (facts_of content) [] content kind.verbatim)) within.counted)
+            rest.counted;
+        pieces = more-pieced (formatted m c) xs tree ts (λ q u. inner-step q (formatted m c) xs found.id
+            (format_role m) [] c content kind.verbatim kind.breaks kind.edged within.pieces g.whole) rest.pieces;
+        seen = ap (λ x. x ++ marks.letters_among ts) within.seen ∙ ap (λ x. letters_in c ++ x) rest.seen;
+        lined = ap (λ x. x || list_any (has is_paragraph) (list_of ts)) (format-lined m) ∙ rest.lined;
+      })
+  line-shown-at (inline (link a t c) xs) k b h before f around fs covers free fresh e normal settled light o =
+      let good = normal-one b fs (link a t c) xs normal in
+      let own = settled-one (link a t c) xs settled in
+      let g : IsLink b fs a t c = link-normal b fs a t c good.own own.own in
+      let pairs : List AttributePair = pairs_of_link a t in
+      let load : ℕ = suc (characters a + characters (unwrap_or t [])) in
+      let heavy : load * count_among c + weight_among c ≤ always_written =
+      left-light (load * count_among c + weight_among c) (weight_among xs) light in
+      let found = from-element f (codes "a") pairs (line_trees c) (line_trees xs) e in
+      let order = ordered-next k f (page.element found.id (codes "a") pairs found.inside) found.rest found.is o in
+      let within = line-shown-at c 0 true h None found.inside (around ++ part.linked found.id a t ∷ []) fs
+      (covers-link around fs found.id a t covers) (free-link (around ++ part.linked found.id a t ∷ [])) fresh-first
+      found.within g.normal g.settled (right-light (load * count_among c) (weight_among c) heavy) order.inside in
+      let rest = line-shown-at xs (suc found.id) b h (Some pairs) found.rest around fs covers free
+      (fresh-next pairs) found.others
+      good.rest own.rest (right-light (load * count_among c + weight_among c) (weight_among xs) light) order.rest in
+      let ts : Simples = shown_at h (Some pairs) found.rest in
+      let content : Simples = shown_at h None found.inside in
+      let tree : Simple = made found.id role.Link pairs content in
+      let kept : address (encoded_address a) ≡ a = link-address a g.address in
+      from-line k (shown_at h before f) (more tree ts) around (inline (link a t c) xs)
+      (ap (shown_at h before) found.is
+      ∙ link-at h before found.id found.inside found.rest a t
+      (ap (λ x. is_to_part x && marks.is_mark marks.is_usual_sign (marked false (raised [] found.id content))) kept
+      ∙ (ap (λ us. is_to_part a && marks.is_mark marks.is_usual_sign us) (plain-content found.id content)
+      ∙ no-sign (is_to_part a) (marks.is_one marks.is_usual_sign (marks.letters_among content))
+      (not (marks.have_image content))
+      (ap (λ x. is_to_part a && marks.is_one marks.is_usual_sign x) within.seen ∙ g.away))))
+      (record {
+        numbers = numbered found.id within.numbers rest.numbers;
+        rising = rise-more k found.id within.numbers rest.numbers (link a t c) xs order.least within.rising rest.rising;
+        bare = ap (λ x. ((x && has_no_name pairs) && are_bare content) && are_bare ts)
+            (within.pieces none_yet (none-follows c)).joined
+            ∙ (ap (λ x. (x && are_bare content) && are_bare ts) (link-nameless a t)
+            ∙ (ap (λ x. x && are_bare ts) within.bare ∙ rest.bare));
+        gives = λ flat n w. ap (fed_all w) (link-gives flat n around found.id a t content ts (free g.outside) kept
+            (link-title a t ∙ title-stays t g.title g.one_line))
+            ∙ both-fed w (gives_at flat n (around ++ part.linked found.id a t ∷ []) content)
+            (parts_in (around ++ part.linked found.id a t ∷ []) within.numbers c)
+            (gives_at flat n around ts) (parts_in around rest.numbers xs) (within.gives flat n w) (rest.gives flat n);
+        spent = spend-more (load * count_among c + weight_among c) (weight_among xs) tree ts
+            (spend-link load (weight_among c) (count_among c) found.id pairs content
+            (at-most-suc (link-size a t g.address g.title g.one_line)) within.counted
+            (count-light (characters a + characters (unwrap_or t [])) (count_among c)
+            (left-light (load * count_among c) (weight_among c) heavy)) within.spent) rest.spent;
+        counted = leaves-more (count_among c) (count_among xs) tree ts within.counted rest.counted;
+        pieces = more-pieced (link a t c) xs tree ts (λ q u. inner-step q (link a t c) xs found.id role.Link pairs c
+            content refl refl refl within.pieces g.whole) rest.pieces;
+        seen = ap (λ x. x ++ marks.letters_among ts) within.seen ∙ ap (λ x. letters_in c ++ x) rest.seen;
+        lined = rest.lined;
+      })
+  line-shown-at (inline (image a t d) xs) k b h before f around fs covers free fresh e normal settled light o =
+      let good = normal-one b fs (image a t d) xs normal in
+      let own = settled-one (image a t d) xs settled in
+      let kept = image-kept a t d good.own own.own in
+      let pairs : List AttributePair = pairs_of_image a t d in
+      let found = from-element f (codes "img") pairs value.none (line_trees xs) e in
+      let order = ordered-next k f (page.element found.id (codes "img") pairs found.inside) found.rest found.is o in
+      let rest = line-shown-at xs (suc found.id) b h (Some pairs) found.rest around fs covers free
+      (fresh-next pairs) found.others
+      good.rest own.rest (right-light 0 (weight_among xs) light) order.rest in
+      let ts : Simples = shown_at h (Some pairs) found.rest in
+      let tree : Simple = simple.image (Some (encoded_address a)) pairs in
+      from-line k (shown_at h before f) (more tree ts) around (inline (image a t d) xs)
+      (ap (shown_at h before) found.is ∙ image-at h before found.id found.inside found.rest a t d)
+      (record {
+        numbers = numbered found.id unknown rest.numbers;
+        rising = rise-more k found.id unknown rest.numbers (image a t d) xs order.least refl rest.rising;
+        bare = ap (λ x. x && are_bare ts) (image-nameless a t d) ∙ rest.bare;
+        gives = λ flat n w. ap (fed_all w) (image-gives flat n around (encoded_address a) pairs ts
+            ∙ ap (λ p. p ∷ gives_at flat n around ts) (kept.is around))
+            ∙ rest.gives flat n (fed w (part.picture a t d around));
+        spent = spend-more 0 (weight_among xs) tree ts (spend-image (Some (encoded_address a)) pairs) rest.spent;
+        counted = leaves-more 1 (count_among xs) tree ts (omega arith) rest.counted;
+        pieces = more-pieced (image a t d) xs tree ts
+            (λ q g. image-step q a t d xs (encoded_address a) pairs) rest.pieces;
+        seen = ap (λ x. x ++ marks.letters_among ts) (image-letters a t d) ∙ ap
+            (λ x. marks.letters d ++ x) rest.seen;
+        lined = rest.lined;
+      })
+  line-shown-at (inline (anchor id) xs) k b h before f around fs covers free fresh e normal settled light o =
       false-true (settled-one (anchor id) xs settled).own
-  line-shown-at (inline line_break xs) h before f around fs covers fresh e normal settled =
-      false-true (settled-one line_break xs settled).own
-  line-shown-at (inline (task d) xs) h before f around fs covers fresh e normal settled =
+  line-shown-at (inline line_break xs) k b h before f around fs covers free fresh e normal settled light o =
+      line-end-at xs k b h before f around fs fresh e normal settled o
+      (λ j g p i n s. line-shown-at xs j b h (Some []) g around fs covers free (fresh-next []) i n s
+      (right-light 0 (weight_among xs) light) p)
+  line-shown-at (inline (task d) xs) k b h before f around fs covers free fresh e normal settled light o =
       false-true (settled-one (task d) xs settled).own

@@ -1,23 +1,26 @@
 -- Normal texts: what shows, with single spaces between.
 use Rattle.std.proofs.Common.{◌≡◌, ℕ, Bool, true, false, not, ◌&&◌, ◌||◌, ◌==◌, cond, List, []}
-use Rattle.std.proofs.Common.{◌∷◌, ◌++◌, reverse}
+use Rattle.std.proofs.Common.{◌∷◌, ◌++◌}
 use Rattle.std.proofs.Common.{refl, sym, ap, ◌∙◌, filter, arith, encode_utf8_all}
+use Rattle.std.proofs.Common.{◌+◌, ◌/◌, ◌%◌}
 use Rattle.std.specs.Prelude.{encode_utf8}
+use Rattle.std.specs.Prelude.{nat_lt}
 use Rattle.std.specs.List.{list_all}
 use Rattle.std.specs.Str.{chars, IsUtf8, is_utf8}
 use Rattle.std.proofs.lemmas.Bool.{and_parts}
 use Rattle.std.proofs.lemmas.Bool.Decides.{nat_tests}
-use Rattle.std.proofs.lemmas.List.{reverse-append}
 use Rattle.std.proofs.lemmas.Str.{encodes-chars, IsUtf8-from_is_utf8}
+use Rattle.std.proofs.lemmas.List.Folds.{list_all-append}
 use Rattle.htmd_lexical.specs.Characters.{space}
 use Rattle.htmd_lexical.specs.CharacterClasses.{first_is, is_empty}
 use Rattle.htmd_lexical.proofs.Cases.{test}
-use Rattle.htmd_document.specs.NormalInlines.{is_line, is_line_byte, is_text, has_double_space, ends_in_space}
+use Rattle.htmd_lexical.specs.WhiteSpace.{is_ascii_white_space}
+use Rattle.htmd_document.specs.NormalInlines.{is_line, is_line_byte, is_text, has_double_space}
 use Rattle.htmd_shown.specs.ShownTexts.{is_shown, shown_text}
-use Rattle.htmd_shown.specs.Spaces.{is_white, is_blank_text}
-use Rattle.htmd_law_returning.specs.SettledDocuments.{is_plain, is_plain_text}
-use Rattle.htmd_law_returning.proofs.RunLemmas.{are_spaced, last_is_space, are_spaces}
+use Rattle.htmd_law_returning.specs.SettledDocuments.{is_plain_text}
+use Rattle.htmd_law_returning.proofs.RunLemmas.{are_spaced}
 use Rattle.htmd_law_returning.proofs.StartLemmas.{false-true, true-false, from-not, space-bytes}
+use lib.Utf8.{encode}
 
 -- ---- tests
 
@@ -37,18 +40,37 @@ double-right (b ∷ s) t h = double-right s t (neither ((b == space) && first_is
 
 -- ---- characters
 
-plain-shows : (cs : List ℕ) → list_all is_plain cs ≡ true → filter is_shown cs ≡ cs
+plain-shows : (cs : List ℕ) → list_all is_shown cs ≡ true → filter is_shown cs ≡ cs
 plain-shows [] h = refl
 plain-shows (c ∷ cs) h =
-    let parts = and_parts (is_plain c) (list_all is_plain cs) h in
-    let own = and_parts (is_shown c) (not (is_white c) || (c == space)) parts.0 in
-    ap (λ b. cond b (c ∷ filter is_shown cs) (filter is_shown cs)) own.0
+    let parts = and_parts (is_shown c) (list_all is_shown cs) h in
+    ap (λ b. cond b (c ∷ filter is_shown cs) (filter is_shown cs)) parts.0
     ∙ ap (λ xs. c ∷ xs) (plain-shows cs parts.1)
 
-plain-black : (c : ℕ) → is_plain c ≡ true → (c == space) ≡ false → not (is_white c) ≡ true
-plain-black c h e =
-    first-of (not (is_white c)) (c == space)
-    (and_parts (is_shown c) (not (is_white c) || (c == space)) h).1 e
+-- of white space of ASCII a line has spaces alone
+abbrev encode_past : ℕ → List ℕ
+encode_past c =
+    cond (nat_lt c 2048) ((192 + c / 64) ∷ (128 + c % 64) ∷ [])
+    (cond (nat_lt c 65536) ((224 + c / 4096) ∷ (128 + (c / 64) % 64) ∷ (128 + c % 64) ∷ [])
+    ((240 + c / 262144) ∷ (128 + (c / 4096) % 64) ∷ (128 + (c / 64) % 64) ∷ (128 + c % 64) ∷ []))
+
+low-bytes : (c : ℕ) → is_ascii_white_space c ≡ true → encode_utf8 c ≡ c ∷ []
+unfolding encode
+low-bytes c h =
+    let low : nat_lt c 128 ≡ true = grind (arith, nat_tests, h) in
+    ap (λ b. cond b (c ∷ []) (encode_past c)) low
+
+black-byte : (c : ℕ) → (c == space) ≡ false → is_ascii_white_space c ≡ true → is_line_byte c ≡ false
+black-byte c e h = grind (arith, nat_tests, e, h)
+
+plain-black : (c : ℕ) → list_all is_line_byte (encode_utf8 c) ≡ true → (c == space) ≡ false
+    → not (is_ascii_white_space c) ≡ true
+plain-black c h e = test (is_ascii_white_space c)
+    (λ q.
+    let one : is_line_byte c ≡ true =
+    (and_parts (is_line_byte c) true (sym (ap (list_all is_line_byte) (low-bytes c q)) ∙ h)).0 in
+    true-false (sym one ∙ black-byte c e q))
+    (λ q. ap not q)
 
 -- a space before characters
 space-before : (c : ℕ) (cs : List ℕ) → (c == space) ≡ true
@@ -63,45 +85,25 @@ some-chars (c ∷ cs) h = refl
 
 -- ---- texts
 
-first-more : (r x : List ℕ) → first_is space r ≡ true → first_is space (r ++ x) ≡ true
-first-more [] x h = false-true h
-first-more (b ∷ r) x h = h
-
-ends-more : (s t : List ℕ) → ends_in_space t ≡ true → ends_in_space (s ++ t) ≡ true
-ends-more s t h = ap (first_is space) (reverse-append s t) ∙ first-more (reverse t) (reverse s) h
-
-spaced-chars : (cs : List ℕ) (p : Bool) → list_all is_plain cs ≡ true
+spaced-chars : (cs : List ℕ) (p : Bool) → list_all is_line_byte (encode_utf8_all cs) ≡ true
     → has_double_space (encode_utf8_all cs) ≡ false
     → (p ≡ true → first_is space (encode_utf8_all cs) ≡ false) → are_spaced p cs ≡ true
 spaced-chars [] p h d f = refl
 spaced-chars (c ∷ cs) p h d f =
-    let parts = and_parts (is_plain c) (list_all is_plain cs) h in
+    let parts = and_parts (list_all is_line_byte (encode_utf8 c)) (list_all is_line_byte (encode_utf8_all cs))
+    (sym (list_all-append is_line_byte (encode_utf8 c) (encode_utf8_all cs)) ∙ h) in
     test (c == space)
     (λ q.
     let is = space-before c cs q in
     let spaces = neither (first_is space (encode_utf8_all cs)) (has_double_space (encode_utf8_all cs))
     (sym (ap has_double_space is) ∙ d) in
     let free : p ≡ false = test p (λ e. true-false (sym (ap (first_is space) is) ∙ f e)) (λ e. e) in
-    ap (λ b. cond b (not p && are_spaced true cs) (not (is_white c) && are_spaced false cs)) q
+    ap (λ b. cond b (not p && are_spaced true cs) (not (is_ascii_white_space c) && are_spaced false cs)) q
     ∙ (ap (λ b. not b && are_spaced true cs) free ∙ spaced-chars cs true parts.1 spaces.1 (λ e. spaces.0)))
     (λ q.
-    ap (λ b. cond b (not p && are_spaced true cs) (not (is_white c) && are_spaced false cs)) q
+    ap (λ b. cond b (not p && are_spaced true cs) (not (is_ascii_white_space c) && are_spaced false cs)) q
     ∙ (ap (λ b. b && are_spaced false cs) (plain-black c parts.0 q)
     ∙ spaced-chars cs false parts.1 (double-right (encode_utf8 c) (encode_utf8_all cs) d) (λ e. false-true e)))
-
-last-chars : (cs : List ℕ) (p : Bool) → is_empty cs ≡ false → last_is_space p cs ≡ true
-    → ends_in_space (encode_utf8_all cs) ≡ true
-last-chars [] p some h = true-false some
-last-chars (c ∷ []) p some h = ap ends_in_space (space-before c [] h)
-last-chars (c ∷ d ∷ cs) p some h =
-    ends-more (encode_utf8 c) (encode_utf8_all (d ∷ cs)) (last-chars (d ∷ cs) (c == space) refl h)
-
-white-spaces : (cs : List ℕ) → are_spaces cs ≡ true → list_all is_white cs ≡ true
-white-spaces [] h = refl
-white-spaces (c ∷ cs) h =
-    let parts = and_parts (c == space) (are_spaces cs) h in
-    let same : c ≡ space = grind (arith, nat_tests, parts.0) in
-    ap (λ x. is_white x && list_all is_white cs) same ∙ white-spaces cs parts.1
 
 -- what a normal text is like
 pub record IsLine (s : List ℕ) : Type 0 where
@@ -110,9 +112,6 @@ pub record IsLine (s : List ℕ) : Type 0 where
   pub bytes : encode_utf8_all (chars s) ≡ s
   pub some : is_empty (chars s) ≡ false
   pub spaced : are_spaced false (chars s) ≡ true
-  pub begins : first_is space s ≡ false → are_spaced true (chars s) ≡ true
-  pub ends : last_is_space false (chars s) ≡ true → ends_in_space s ≡ true
-  pub blank : are_spaces (chars s) ≡ true → is_blank_text s ≡ true
 
 pub text-line : (s : List ℕ) → is_plain_text s ≡ true → is_text s ≡ true → IsLine s
 text-line s p h =
@@ -130,8 +129,5 @@ text-line s p h =
       shown = ap encode_utf8_all (plain-shows (chars s) p) ∙ same;
       bytes = same;
       some = filled;
-      spaced = spaced-chars (chars s) false p single (λ e. false-true e);
-      begins = λ f. spaced-chars (chars s) true p single (λ e. ap (first_is space) same ∙ f);
-      ends = λ e. sym (ap ends_in_space same) ∙ last-chars (chars s) false filled e;
-      blank = white-spaces (chars s);
+      spaced = spaced-chars (chars s) false (ap (list_all is_line_byte) same ∙ line.1) single (λ e. false-true e);
     }

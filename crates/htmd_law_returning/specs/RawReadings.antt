@@ -5,14 +5,14 @@ use Rattle.htmd_commonmark_reading.specs.Markup.{task, raw, Block, paragraph, he
 use Rattle.htmd_commonmark_reading.specs.Markup.{thematic_break, list, table, html_block, Blocks, no_blocks, block}
 use Rattle.htmd_commonmark_reading.specs.Markup.{Items, no_items, item}
 
--- no raw tag stands outside descriptions of images, where a tag is text
+-- no raw tag stands in it
 abbrev pub has_no_raw : Inlines → Bool
 has_no_raw no_inlines = true
 has_no_raw (letter c xs) = has_no_raw xs
 has_no_raw (code s xs) = has_no_raw xs
 has_no_raw (formatted f content xs) = has_no_raw content && has_no_raw xs
 has_no_raw (link a t content xs) = has_no_raw content && has_no_raw xs
-has_no_raw (image a t content xs) = has_no_raw xs
+has_no_raw (image a t content xs) = has_no_raw content && has_no_raw xs
 has_no_raw (line_break xs) = has_no_raw xs
 has_no_raw (task d xs) = has_no_raw xs
 has_no_raw (raw tag xs) = false
