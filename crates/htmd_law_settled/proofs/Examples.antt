@@ -1,0 +1,84 @@
+-- What is neat, and what isn't.
+use Rattle.std.proofs.Common.{◌≡◌, true, false, [], ◌∷◌, ◌++◌, refl, Some, None}
+use Rattle.std.specs.Prelude.{codes}
+use Rattle.std.specs.Str.{chars, is_utf8}
+use Rattle.htmd_document.specs.Formats.{Strong}
+use Rattle.htmd_document.specs.Documents.{text, code, formatted, image, line_break, no_inlines, inline, paragraph}
+use Rattle.htmd_document.specs.Documents.{no_blocks}
+use Rattle.htmd_document.specs.Documents.{block}
+use Rattle.htmd_law_returning.specs.WholeLines.{is_whole}
+use Rattle.htmd_law_settled.specs.BareBreaks.{has_bare_breaks}
+use Rattle.htmd_law_settled.specs.Leaves.{are_blocks_of}
+use Rattle.htmd_law_settled.specs.NeatLeaves.{neat, is_neat_code}
+use lib.Utf8.{encode}
+
+a_text : are_blocks_of neat (block (paragraph (inline (text (codes "a b")) no_inlines)) no_blocks) ≡ true
+unfolding chars encode
+a_text = refl
+
+-- with U+FEFF
+an_unseen_mark : are_blocks_of neat (block (paragraph
+    (inline (text (codes "a" ++ 0xEF ∷ 0xBB ∷ 0xBF ∷ [])) no_inlines)) no_blocks) ≡ false
+unfolding chars encode
+an_unseen_mark = refl
+
+a_description : are_blocks_of neat (block (paragraph
+    (inline (image (codes "a") None (codes "b c")) no_inlines)) no_blocks) ≡ true
+unfolding chars encode
+a_description = refl
+
+a_description_with_two_spaces : are_blocks_of neat (block (paragraph
+    (inline (image (codes "a") None (codes "b  c")) no_inlines)) no_blocks) ≡ false
+unfolding chars encode
+a_description_with_two_spaces = refl
+
+code_in_a_language : is_neat_code (Some (codes "c++")) (codes "d\n") ≡ true
+unfolding chars encode is_utf8
+code_in_a_language = refl
+
+code_in_none_by_name : is_neat_code (Some (codes "Text")) (codes "d\n") ≡ false
+unfolding chars encode is_utf8
+code_in_none_by_name = refl
+
+blank_code : is_neat_code None (codes " \n") ≡ false
+unfolding chars encode is_utf8
+blank_code = refl
+
+an_empty_formula : is_neat_code (Some (codes "math")) [] ≡ true
+unfolding chars encode is_utf8
+an_empty_formula = refl
+
+-- a no-break space at the end, and inside
+a_space_at_the_end : is_whole (inline (text (codes "a" ++ 0xC2 ∷ 0xA0 ∷ [])) no_inlines) ≡ false
+unfolding chars encode
+a_space_at_the_end = refl
+
+a_space_inside : is_whole (inline (text (codes "a" ++ 0xC2 ∷ 0xA0 ∷ codes "b")) no_inlines) ≡ true
+unfolding chars encode
+a_space_inside = refl
+
+a_break_at_the_end : is_whole (inline (formatted Strong (inline (text (codes "a")) (inline line_break no_inlines)))
+    no_inlines) ≡ false
+unfolding chars encode
+a_break_at_the_end = refl
+
+-- the same format twice, with a space alone between, and with a letter
+a_format_twice : is_whole (inline (formatted Strong (inline (text (codes "a")) no_inlines))
+    (inline (text (codes " ")) (inline (formatted Strong (inline (text (codes "b")) no_inlines)) no_inlines))) ≡ false
+unfolding chars encode
+a_format_twice = refl
+
+a_letter_between : is_whole (inline (formatted Strong (inline (text (codes "a")) no_inlines))
+    (inline (text (codes " c ")) (inline (formatted Strong (inline (text (codes "b")) no_inlines)) no_inlines))) ≡ true
+unfolding chars encode
+a_letter_between = refl
+
+a_code_with_a_space : is_whole (inline (code (codes "a ")) (inline (text (codes "b")) no_inlines)) ≡ false
+unfolding chars encode
+a_code_with_a_space = refl
+
+-- a no-break space before a break
+a_space_at_a_break : has_bare_breaks (inline (text (codes "a" ++ 0xC2 ∷ 0xA0 ∷ [])) (inline line_break
+    (inline (text (codes "b")) no_inlines))) ≡ false
+unfolding chars encode
+a_space_at_a_break = refl

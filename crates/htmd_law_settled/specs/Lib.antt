@@ -1,0 +1,6 @@
+-- What leaves of documents of pages are like.
+pub mod Leaves
+pub mod BareBreaks
+pub mod NeatLeaves
+pub mod CommonDocuments
+pub mod PageLaws
