@@ -160,10 +160,12 @@ pub page_found : (kind : Kind) (files : List (String Global)) (i : ℕ) (file : 
     → file ≡ get_or files i file → is_page kind (string_bytes file) ≡ true
     → list_any (is_page kind) (texts_of (drop i files)) ≡ true
 page_found kind files i file l is t =
-    page_more kind files i file l is ∙ ap (λ (b : Bool). b || list_any (is_page kind) (texts_of (drop (i + 1) files))) t
+    page_more kind files i file l is
+    ∙ ap (λ (b : Bool). b || list_any (is_page kind) (texts_of (drop (i + 1) files))) t
 
 pub page_next : (kind : Kind) (files : List (String Global)) (i : ℕ) (file : String Global) → i < length files
     → file ≡ get_or files i file → is_page kind (string_bytes file) ≡ false
     → list_any (is_page kind) (texts_of (drop i files)) ≡ list_any (is_page kind) (texts_of (drop (i + 1) files))
 page_next kind files i file l is f =
-    page_more kind files i file l is ∙ ap (λ (b : Bool). b || list_any (is_page kind) (texts_of (drop (i + 1) files))) f
+    page_more kind files i file l is
+    ∙ ap (λ (b : Bool). b || list_any (is_page kind) (texts_of (drop (i + 1) files))) f

@@ -20,14 +20,16 @@ abbrev pub missed_in : List Missed → List (List ℕ)
 missed_in missed = map (λ item. string_bytes item.path) missed
 
 -- an operand was found for a name, and what is missed of it was added
-abbrev pub Finds : Option (List Change) → Kind → Bool → List ℕ → Operand → List (List ℕ) → List (List ℕ)
+abbrev pub Finds : Option (List Change) → Kind → Bool → List ℕ → Operand → List (List ℕ)
+    → List (List ℕ)
     → Type 0
 Finds before kind lists name operand missed missed_now =
     IfSome before (λ past. (more : List (List ℕ)) × spec.LeadsTo past kind lists name (operand_of operand) more
     × (missed_now ≡ missed ++ more))
 
 -- the files below a folder were found, and the folder was added if it is missed
-abbrev pub FindsFiles : Option (List Change) → Kind → List ℕ → List (List ℕ) → List (List ℕ) → List (List ℕ)
+abbrev pub FindsFiles : Option (List Change) → Kind → List ℕ → List (List ℕ) → List (List ℕ)
+    → List (List ℕ)
     → Type 0
 FindsFiles before kind name files missed missed_now =
     IfSome before (λ past. IsListing past name files × (missed_now ≡ missed ++ spec.missed_in kind name files))

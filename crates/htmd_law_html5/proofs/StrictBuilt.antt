@@ -162,7 +162,8 @@ module _ (z : Bool) where
           ap (λ there. add_text u there s.nodes) (at_end p c s h)
           ∙ text_added u (at s) s.nodes (within p c s h) (st refl)
 
-      in_body : Flows p s → (new : StateValue) × Built (p ∷ c) (tokens.text u ∷ []) (with_tree (at s) (text u) s.nodes)
+      in_body : Flows p s → (new : StateValue)
+          × Built (p ∷ c) (tokens.text u ∷ []) (with_tree (at s) (text u) s.nodes)
           s new
       in_body w =
           let fed = text_fed p c s h w u f.0 in
@@ -170,7 +171,8 @@ module _ (z : Bool) where
           (λ t. leaf_built p c (text u) (tokens.text u) s _ s.frameset_ok h refl (fed ∙ rw t refl) nodes)
           (λ t. leaf_built p c (text u) (tokens.text u) s _ false h refl (fed ∙ rw t refl) nodes)
 
-      in_parts : is_table_mode s.mode ≡ true → is_of Fostering (html (name_of_text p)) ≡ true → holds_parts p ≡ true
+      in_parts : is_table_mode s.mode ≡ true → is_of Fostering (html (name_of_text p)) ≡ true
+          → holds_parts p ≡ true
           → (new : StateValue) × Built (p ∷ c) (tokens.text u ∷ []) (with_tree (at s) (text u) s.nodes) s new
       in_parts m b o =
           leaf_built p c (text u) (tokens.text u) s _ s.frameset_ok h refl (white_fed p c s h m b u f.0 (f.1 o)) nodes
@@ -328,7 +330,8 @@ module _ (z : Bool) where
           (ap (λ (y : StateValue). y.content) started.2 ∙ h.content ∙ sym (plain_content z n e))
           (λ held stack mode there fewer.
           let st = subst (Stands held.nodes (n ∷ (p ∷ c))) stack there.stands in
-          let ends = formatting_end n (p ∷ c) held there (flows_in p s held w mode) n (plain_flows n e) (plain_case n e)
+          let ends = formatting_end n (p ∷ c) held there (flows_in p s held w mode) n (plain_flows n e)
+          (plain_case n e)
           t (length s.nodes) s.stack (st.1).0 started.0 stack (st.1).1 st.3 fewer
           (fewer_trans started.0 s.formatting (entries s.stack) started.1 h.listed) in (
             ends.0,
@@ -394,7 +397,8 @@ module _ (z : Bool) where
       → (holds_parts n ≡ false → (y : StateValue) → mode_of (fresh n s ∷ s.stack) y ≡ m)
       → Fewer list (Some (length s.nodes) ∷ None ∷ s.formatting)
       → feed (start_tag (tag_named n attributes slash)) s ≡ opened_as p c s h n attributes list ok m
-      → ((held : StateValue) → held.stack ≡ fresh n s ∷ s.stack → held.mode ≡ m → InContext (n ∷ (p ∷ c)) held
+      → ((held : StateValue) → held.stack ≡ fresh n s ∷ s.stack → held.mode ≡ m
+      → InContext (n ∷ (p ∷ c)) held
       → Fewer held.formatting list → (left : List (Option ℕ)) × Fewer left s.formatting
       × (feed (end_tag (tag_named n [] false)) held
       ≡ record held { stack = s.stack; formatting = left; mode = s.mode }))
@@ -504,7 +508,8 @@ module _ (z : Bool) where
     pre_whole : n ≡ codes "pre" → is_void n ≡ false → Flows p s → Whole
     pre_whole q v w =
         with_content v (λ slash content spelled. subst (λ m. SpellsForest children (content_tokens m content)
-        → Fits (p ∷ c) m → FitsForest (m ∷ (p ∷ c)) children → ElementBuilt p c m attributes slash content children s)
+        → Fits (p ∷ c) m → FitsForest (m ∷ (p ∷ c)) children
+        → ElementBuilt p c m attributes slash content children s)
         (sym q) (λ spelled there below. pre_built attributes children ih slash content p c s g spelled there below h w)
         spelled f.0 f.1)
 

@@ -59,7 +59,8 @@ cell_names = codes "td" ∷ codes "th" ∷ []
 abbrev pub is_part : List ℕ → Bool
 is_part n = is_table_part n || is_row n || is_among cell_names n || is_among (codes "col" ∷ []) n
 
-holds_none : (names : List (List ℕ)) (p : List ℕ) → list_all holds_parts names ≡ true → holds_parts p ≡ false
+holds_none : (names : List (List ℕ)) (p : List ℕ) → list_all holds_parts names ≡ true
+    → holds_parts p ≡ false
     → is_among names p ≡ true → ⊥
 holds_none names p l o e = true≢false (sym (among_passes holds_parts names p e l) ∙ o)
 
@@ -85,7 +86,8 @@ only_part false false true f e = absurd (cc)
 only_part false false false true e = absurd (cc)
 only_part false false false false e = absurd (cc)
 
-only_row : (a b d f : Bool) → (if a then false else if b then true else if d then false else if f then false else false)
+only_row : (a b d f : Bool) → (if a then false else if b then true else if d then false else if f then false else
+    false)
     ≡ true → b ≡ true
 only_row true b d f e = absurd (cc)
 only_row false true d f e = refl
@@ -166,8 +168,13 @@ plain_in_flow n children o e =
 
 pub table_alone : (n : List ℕ) → is_among table_names n ≡ true → is_part n ≡ false → n ≡ codes "table"
 table_alone n e o =
-    among_each (λ m. is_part m ≡ false → m ≡ codes "table") table_names n e
-    (λ k. refl, (λ k. absurd (cc), (λ k. absurd (cc), (λ k. absurd (cc), (λ k. absurd (cc), (λ k. absurd (cc), tt))))))
+    among_each (λ m. is_part m ≡ false → m ≡ codes "table") table_names n e (
+      λ k. refl,
+      (
+        λ k. absurd (cc),
+        (λ k. absurd (cc), (λ k. absurd (cc), (λ k. absurd (cc), (λ k. absurd (cc), tt)))),
+      ),
+    )
     o
 
 -- ---- names that are nothing to a table

@@ -166,7 +166,8 @@ nothing_left (suc k) p c s h w =
 pub in_step : (z : Bool) (k : ℕ) (now after : ContentModel) (page left : List ℕ) (xs : List TokenValue)
     (s new : StateValue)
     (p : List ℕ) (c : List (List ℕ)) → Run z now page xs after left → s.content ≡ now → left ≡ []
-    → Parts z s xs new → InContext (p ∷ c) new → Flows p new → length page ≤ k → read_within k page s ≡ new
+    → Parts z s xs new → InContext (p ∷ c) new → Flows p new → length page ≤ k
+    → read_within k page s ≡ new
 in_step z k now after page left xs s new p c here n e r h w l = rw (e, r) (nothing_left k p c new h w)
 in_step z zero now after page left xs s new p c (onward token rest f g m q) n e r h w l = absurd (omega arith)
 in_step z (suc k) now after page left xs s new p c (onward token rest f g m q) n e r h w l =

@@ -290,7 +290,8 @@ module _ (p : List ℕ) (c : List (List ℕ)) (s : StateValue) (h : InContext (p
           fed_start n f attributes slash
               ∙ rw x (ap (λ stack. no_frameset (insert_element (known tags.Button) attributes
               (reconstruct (record s { stack = stack })))) closed
-              ∙ ap (λ (y : StateValue). no_frameset (insert_element (known tags.Button) attributes y)) nothing_again),
+              ∙ ap (λ (y : StateValue). no_frameset (insert_element (known tags.Button) attributes y))
+              nothing_again),
         )
     plain_start n (list_item x) f e attributes slash =
         let li = no_li_closed (f.item x) in
@@ -337,7 +338,8 @@ module _ (p : List ℕ) (c : List (List ℕ)) (s : StateValue) (h : InContext (p
         )
     formatting_start n (no_break x) f e attributes slash =
         let none_ : is_in_scope (Only tags.NoBr) Default s.stack ≡ false =
-        scope_none (Only tags.NoBr) Default (codes "nobr" ∷ []) [] (one_spelled tags.NoBr) (λ m f. absurd (cc)) s.nodes
+        scope_none (Only tags.NoBr) Default (codes "nobr" ∷ []) [] (one_spelled tags.NoBr) (λ m f. absurd (cc))
+        s.nodes
         (p ∷ c) s.stack h.stands (itself_met n (codes "nobr") x f (rw x refl)) in
         let closed : close_no_break s ≡ s = rw none_ refl in (
           listed_room n attributes,
@@ -359,7 +361,8 @@ module _ (p : List ℕ) (c : List (List ℕ)) (s : StateValue) (h : InContext (p
     put_void tag attributes y = no_frameset (insert_void (known tag) attributes y)
 
     pub void_fed : (n : List ℕ) (k : VoidCase n) → Fits (p ∷ c) n → (attributes : List AttributePair)
-        (slash : Bool) → (ok : Bool) × (feed (start_tag (tag_named n attributes slash)) s ≡ put_with n attributes ok)
+        (slash : Bool) → (ok : Bool) × (feed (start_tag (tag_named n attributes slash)) s
+        ≡ put_with n attributes ok)
     unfolding block_rule formatting_rule phrasing_rule
     void_fed n (in_text x) f attributes slash = (
       false,

@@ -61,7 +61,8 @@ module _ (p : List ℕ) (c : List (List ℕ)) (s : StateValue) (h : InContext (p
       by_stack [] k = absurd k
       by_stack (x ∷ stack) k = rw (k.0, e) refl
 
-  white_put : (u : List ℕ) → takes_all s ≡ true → is_without_null u ≡ true → list_all is_ascii_white_space u ≡ true
+  white_put : (u : List ℕ) → takes_all s ≡ true → is_without_null u ≡ true
+      → list_all is_ascii_white_space u ≡ true
       → put_text u s ≡ insert_text u s
   white_put u t e w =
       let k = and_parts (not (is_empty u)) (list_all is_not_null u) e in
@@ -72,7 +73,8 @@ module _ (p : List ℕ) (c : List (List ℕ)) (s : StateValue) (h : InContext (p
       ∙ ap (λ y. put_table_text y s) (no_nulls u k.1) ∙ rw (f.0, w) refl
 
   pub white_fed : is_table_mode s.mode ≡ true → is_of Fostering (html (name_of_text p)) ≡ true → (u : List ℕ)
-      → is_without_null u ≡ true → list_all is_ascii_white_space u ≡ true → feed (text u) s ≡ insert_text u s
+      → is_without_null u ≡ true → list_all is_ascii_white_space u ≡ true
+      → feed (text u) s ≡ insert_text u s
   white_fed m f u e w =
       let all : takes_all s ≡ true = rw (m, top_is Fostering f) refl in
       ap (λ (x : StateValue). feed_text (without_line_feed s.skips_line_feed u) x) (unskipped p c s h)
@@ -160,7 +162,8 @@ module _ (p : List ℕ) (c : List (List ℕ)) (s : StateValue) (h : InContext (p
           → feed (start_tag (tag_named n attributes slash)) s
           ≡ opened_as n attributes (None ∷ s.formatting) s.frameset_ok InCell
       start n attributes slash e =
-          fed_by n attributes slash _ InRow m (e ∙ ap (λ stack. done (push_marker (put_on n attributes InCell stack)))
+          fed_by n attributes slash _ InRow m
+          (e ∙ ap (λ stack. done (push_marker (put_on n attributes InCell stack)))
           (stays_there TableRowContext (rw q refl)))
 
   -- a cell is not the outermost element

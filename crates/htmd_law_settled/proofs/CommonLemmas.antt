@@ -30,7 +30,8 @@ use Rattle.htmd_law_settled.specs.CommonDocuments.{is_common_block, are_common_b
 -- ---- settled
 
 mutual
-  inline-settled : (x : Inline) → is_inline_of neat x ≡ true → is_bare_inside x ≡ true → is_common_inline x ≡ true
+  inline-settled : (x : Inline) → is_inline_of neat x ≡ true → is_bare_inside x ≡ true
+      → is_common_inline x ≡ true
       → is_settled_inline x ≡ true
   inline-settled (text s) n b c = n
   inline-settled (code s) n b c = n
@@ -71,7 +72,8 @@ whole-settled xs n c =
     and_from (is_whole xs) (are_settled_inlines xs) p.0 (line-settled xs m.0 p.1 c)
 
 -- language, characters, formula, blank
-code-settled : (l c m b : Bool) → (l && c && (m || not b)) ≡ true → not (m && b) ≡ true → (l && (c && not b)) ≡ true
+code-settled : (l c m b : Bool) → (l && c && (m || not b)) ≡ true → not (m && b) ≡ true
+    → (l && (c && not b)) ≡ true
 code-settled true true true true e f = f
 code-settled true true true false e f = refl
 code-settled true true false b e f = e
@@ -79,7 +81,8 @@ code-settled true false m b e f = e
 code-settled false c m b e f = e
 
 mutual
-  block-settled : (b : Block) → is_block_of neat b ≡ true → is_common_block b ≡ true → is_settled_block b ≡ true
+  block-settled : (b : Block) → is_block_of neat b ≡ true → is_common_block b ≡ true
+      → is_settled_block b ≡ true
   block-settled (paragraph content) n c = whole-settled content n c
   block-settled (heading level content) n c =
       whole-settled content n (and_parts (are_common_inlines content) (are_of_line false content) c).0

@@ -69,7 +69,8 @@ unfolding chars encode
 a_format_twice = refl
 
 a_letter_between : is_whole (inline (formatted Strong (inline (text (codes "a")) no_inlines))
-    (inline (text (codes " c ")) (inline (formatted Strong (inline (text (codes "b")) no_inlines)) no_inlines))) ≡ true
+    (inline (text (codes " c ")) (inline (formatted Strong (inline (text (codes "b")) no_inlines)) no_inlines)))
+    ≡ true
 unfolding chars encode
 a_letter_between = refl
 

@@ -172,7 +172,8 @@ module _ (k : Leaves) where
         (run-has (description_of attributes) h c f) tt
 
     formula-has : (tex : List ℕ) (is_alone : Bool) → AllCharacters k (chars (in_line tex))
-        → k.code (Some (codes "math")) (trimmed (with_line_feeds tex)) ≡ true → Gives k (formula_parts tex is_alone)
+        → k.code (Some (codes "math")) (trimmed (with_line_feeds tex)) ≡ true
+        → Gives k (formula_parts tex is_alone)
     formula-has tex is_alone h e c f =
         either-parts k (is_alone && not c.is_flat) (apart (whole (math_block tex) ∷ [])) (math_in_line tex c)
         (apart-has k (whole (math_block tex) ∷ []) (e, tt))
@@ -292,7 +293,8 @@ module _ (k : Leaves) where
           → AllParts k (if has_elements c then ps else qs)
       plainly c f ps qs h = subst (λ (b : Bool). AllParts k (if b then ps else qs)) (sym (no-elements c f)) h
 
-      pub element-has : (r : Role) → (takes_title r ≡ true → HasAttributes e.attributes) → Gives k (parts_of r e)
+      pub element-has : (r : Role) → (takes_title r ≡ true → HasAttributes e.attributes)
+          → Gives k (parts_of r e)
       element-has (role.Format g) t c f =
           here (inside_format (of_format g) c) (format-fits (of_format g) c (formats g) f)
       element-has (role.Element g) t c f =
@@ -349,7 +351,8 @@ module _ (k : Leaves) where
     either-rows true rs qs g h = g
     either-rows false rs qs g h = h
 
-    either-nodes : (b : Bool) (ns ms : List Node) → AllNodes k ns → AllNodes k ms → AllNodes k (if b then ns else ms)
+    either-nodes : (b : Bool) (ns ms : List Node) → AllNodes k ns → AllNodes k ms
+        → AllNodes k (if b then ns else ms)
     either-nodes true ns ms g h = g
     either-nodes false ns ms g h = h
 

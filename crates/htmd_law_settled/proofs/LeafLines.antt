@@ -160,7 +160,8 @@ module _ (k : Leaves) where
   one-wrapped (part.formatted f) xs h g = (h, g)
   one-wrapped (linked node address title) xs h g = (h, g)
 
-  wrapped-has : (around : List Around) (y : Inline) → AllAround around → HasInline y → HasInline (wrapped around y)
+  wrapped-has : (around : List Around) (y : Inline) → AllAround around → HasInline y
+      → HasInline (wrapped around y)
   wrapped-has [] y h g = g
   wrapped-has (a ∷ around) y h g = one-wrapped a (one_inline (wrapped around y)) h.0 (wrapped-has around y h.1 g, tt)
 
@@ -202,7 +203,8 @@ module _ (k : Leaves) where
   take-around (suc n) [] a = tt
   take-around (suc n) (z ∷ around) a = (a.0, take-around n around a.1)
 
-  anchored-has : (n : ℕ) (ids : List (List ℕ)) (xs : Inlines) (around : List Around) → AllAround around → HasLine xs
+  anchored-has : (n : ℕ) (ids : List (List ℕ)) (xs : Inlines) (around : List Around) → AllAround around
+      → HasLine xs
       → HasLine (anchored n xs around ids)
   anchored-has n [] xs around a h = h
   anchored-has n (id ∷ ids) xs around a h =
@@ -285,7 +287,8 @@ module _ (k : Leaves) where
     gap-text true g h a b = a
     gap-text false g h a b = b
 
-    spaced-has : (w : Writing) (c : ℕ) (is_code : Bool) → HasWriting w → scalar c ≡ true → k.character c ≡ true
+    spaced-has : (w : Writing) (c : ℕ) (is_code : Bool) → HasWriting w → scalar c ≡ true
+        → k.character c ≡ true
         → HasWriting (spaced_out w c is_code)
     spaced-has w c is_code h e f = record {
       done = h.done;
@@ -388,7 +391,8 @@ module _ (k : Leaves) where
 
     -- ---- the parts
 
-    character-has : (w : Writing) (around : List Around) (is_code : Bool) (c : ℕ) → HasWriting w → AllAround around
+    character-has : (w : Writing) (around : List Around) (is_code : Bool) (c : ℕ) → HasWriting w
+        → AllAround around
         → scalar c ≡ true → k.character c ≡ true → HasWriting (after_character w around is_code c)
     character-has w around is_code c h a e f = by_white (is_white c) refl
       where
@@ -401,7 +405,8 @@ module _ (k : Leaves) where
             (as-text is_code (encode_utf8 c) (text-character c e f)) (character-leaf is_code c e q)
             (λ i. code-inline is_code (encode_utf8 c) i)
 
-    run-has : (cs : List ℕ) (w : Writing) (around : List Around) (is_code : Bool) → HasWriting w → AllAround around
+    run-has : (cs : List ℕ) (w : Writing) (around : List Around) (is_code : Bool) → HasWriting w
+        → AllAround around
         → AllCharacters cs → HasWriting (fold (λ v c. after_character v around is_code c) w cs)
     run-has [] w around is_code h a f = h
     run-has (c ∷ cs) w around is_code h a f =

@@ -141,7 +141,8 @@ module _ (k : Leaves) where
 
     each-has : (nodes : List Node) → AllNodes nodes → Gives (each_whole nodes)
     each-has [] h c f = tt
-    each-has (n ∷ nodes) h c f = parts-append (n.whole c) (each_whole nodes c) (h.0.whole c f) (each-has nodes h.1 c f)
+    each-has (n ∷ nodes) h c f = parts-append (n.whole c) (each_whole nodes c) (h.0.whole c f)
+        (each-has nodes h.1 c f)
 
     before-has : (nodes : List Node) → AllNodes nodes → Gives (before_items nodes)
     before-has [] h c f = tt
@@ -155,7 +156,8 @@ module _ (k : Leaves) where
         either-parts (is_item n) [] (edge ∷ n.whole c ++ behind_item nodes c) tt
         (tt, parts-append (n.whole c) (behind_item nodes c) (h.0.whole c f) (behind-item-has nodes h.1 c f))
 
-    either-items : (b : Bool) (is js : List ListItem) → AllItems is → AllItems js → AllItems (if b then is else js)
+    either-items : (b : Bool) (is js : List ListItem) → AllItems is → AllItems js
+        → AllItems (if b then is else js)
     either-items true is js g h = g
     either-items false is js g h = h
 
@@ -397,7 +399,8 @@ module _ (k : Leaves) where
         let rest = rows-filled rows h.1 in
         either-rows-of (nat_lt 0 (length row.cells)) (row ∷ filled_rows rows) (filled_rows rows) (h.0, rest) rest
 
-    filled-has : (begins : List Bool) (cells : List grid.Cell) → CellsOf cells → HaveCells k (grid.filled begins cells)
+    filled-has : (begins : List Bool) (cells : List grid.Cell) → CellsOf cells
+        → HaveCells k (grid.filled begins cells)
     filled-has [] cells h = tt
     filled-has (true ∷ begins) (cell ∷ cells) h = (h.0, filled-has begins cells h.1)
     filled-has (true ∷ begins) [] h = (nothing-whole k, filled-has begins [] tt)
@@ -500,7 +503,8 @@ module _ (k : Leaves) where
     option-part None h = tt
     option-part (Some b) h = (h, tt)
 
-    inside-has : (nodes : List Node) (rows : List Row) → AllNodes nodes → AllRows rows → Gives (grid_inside nodes rows)
+    inside-has : (nodes : List Node) (rows : List Row) → AllNodes nodes → AllRows rows
+        → Gives (grid_inside nodes rows)
     inside-has nodes rows h g c f =
         let n : ℕ = before_row nodes in
         let first : List Part = captions_among (take n nodes) c in

@@ -33,7 +33,8 @@ content-same f g e (formatted h c) = ap (formatted h) (e c)
 content-same f g e (link a t c) = ap (link a t) (e c)
 content-same f g e x = refl
 
-last-same : (f g : Inlines → Inlines) → ((xs : Inlines) → f xs ≡ g xs) → (xs : Inlines) → in_last f xs ≡ in_last g xs
+last-same : (f g : Inlines → Inlines) → ((xs : Inlines) → f xs ≡ g xs) → (xs : Inlines)
+    → in_last f xs ≡ in_last g xs
 last-same f g e no_inlines = refl
 last-same f g e (inline x no_inlines) = ap one_inline (content-same f g e x)
 last-same f g e (inline x (inline y ys)) = ap (inline x) (last-same f g e (inline y ys))
@@ -211,7 +212,8 @@ leaf-plain (code s) h v = refl
 leaf-plain (image a t d) h v = refl
 leaf-plain y h v = absurd h
 
-leaf-shaped : (y : Inline) → IsLeaf y → ShapedInline y × StartsInline y × EndsInline y × EndOf (is_code_inline y) y
+leaf-shaped : (y : Inline) → IsLeaf y
+    → ShapedInline y × StartsInline y × EndsInline y × EndOf (is_code_inline y) y
 leaf-shaped (text s) h = (h.2, h.0, h.1, tt)
 leaf-shaped (code s) h = (h, tt, tt, tt)
 leaf-shaped (image a t d) h = (tt, tt, tt, tt)
@@ -269,7 +271,8 @@ record Ready (zs : Inlines) (v : Inline) : Type 0 where
   starts : Starts zs
   follows : Follows zs v
 
-ready-gap : (o : Option Inline) (ms : List Wrapper) (xs : Inlines) (v : Inline) → IsGap o → Whole xs → Along false ms xs
+ready-gap : (o : Option Inline) (ms : List Wrapper) (xs : Inlines) (v : Inline) → IsGap o → Whole xs
+    → Along false ms xs
     → LastApart xs v → Ready (with_gap o xs) v
 ready-gap None ms xs v i h k a = record { shaped = h.0; starts = h.1; follows = ends-follow xs v h.2 }
 ready-gap (Some g) ms no_inlines v i h k a = absurd k
@@ -388,7 +391,8 @@ module _ (o : Option Inline) (i : IsGap o) (ids : List (List ℕ)) (y : Inline) 
   put around zs = joined (with_anchors ids (with_gap o zs)) (wrapped around y)
 
   put-ready : (around : List Around) (zs : Inlines) → Ready zs (wrapped around y)
-      → Whole (joined zs (wrapped around y)) × Along (is_code_inline y) (wrappers around) (joined zs (wrapped around y))
+      → Whole (joined zs (wrapped around y))
+      × Along (is_code_inline y) (wrappers around) (joined zs (wrapped around y))
   put-ready around zs r =
       let w = wrapped-shaped around y l in (
         (
@@ -412,7 +416,8 @@ module _ (o : Option Inline) (i : IsGap o) (ids : List (List ℕ)) (y : Inline) 
       × Along (is_code_inline y) (wrappers around) (deep n (put (drop n around)) xs)
 
   placed-more : (m : Wrapper) (ms : List Wrapper) (a : Around) (around : List Around) (xs : Inlines)
-      → ((c : Inlines) → Whole c → Along false ms c → Placed around (shared ms (wrappers around)) c) → Whole xs
+      → ((c : Inlines) → Whole c → Along false ms c → Placed around (shared ms (wrappers around)) c)
+      → Whole xs
       → Along false (m ∷ ms) xs → (b : Bool) → is_same m (wrapper_of a) ≡ b
       → Placed (a ∷ around) (if b then suc (shared ms (wrappers around)) else 0) xs
   placed-more m ms a around xs inner h k true e =

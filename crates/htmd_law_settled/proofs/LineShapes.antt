@@ -37,11 +37,13 @@ same-format f g e = absurd (cc)
 -- ---- texts with something to see at an end
 
 abbrev pub BlackStart : List ℕ → Type 0
-BlackStart s = (c : ℕ) × (t : List ℕ) × (s ≡ encode_utf8 c ++ t) × (scalar c ≡ true) × (is_white c ≡ false)
+BlackStart s = (c : ℕ) × (t : List ℕ) × (s ≡ encode_utf8 c ++ t) × (scalar c ≡ true)
+    × (is_white c ≡ false)
 
 abbrev pub BlackEnd : List ℕ → Type 0
 BlackEnd s =
-    (t : List ℕ) × (c : ℕ) × (s ≡ t ++ encode_utf8 c) × IsUtf8 t × (scalar c ≡ true) × (is_white c ≡ false)
+    (t : List ℕ) × (c : ℕ) × (s ≡ t ++ encode_utf8 c) × IsUtf8 t × (scalar c ≡ true)
+    × (is_white c ≡ false)
 
 start-append : (s u : List ℕ) → BlackStart s → BlackStart (s ++ u)
 start-append s u h =
@@ -334,7 +336,8 @@ gap-plain (text s) h v = refl
 gap-plain line_break h v = refl
 gap-plain g h v = absurd h
 
-met-follow : (x g w : Inline) → ShapedInline x → EndsInline x → is_same_around x w ≡ false → Follows (met x g) w
+met-follow : (x g w : Inline) → ShapedInline x → EndsInline x → is_same_around x w ≡ false
+    → Follows (met x g) w
 met-follow (text s) (text t) w u h e = tt
 met-follow (code s) (code t) w u h e = tt
 met-follow (text s) g w u h e = λ q. e

@@ -47,7 +47,8 @@ character-leaf false c e w = (
   character-utf8 c e,
 )
 
-pub code-inline : (is_code : Bool) (s : List ℕ) → is_code ≡ true → is_code_inline (text_or_code is_code s) ≡ true
+pub code-inline : (is_code : Bool) (s : List ℕ) → is_code ≡ true
+    → is_code_inline (text_or_code is_code s) ≡ true
 code-inline true s e = refl
 code-inline false s e = absurd (cc)
 
@@ -82,7 +83,8 @@ module _ (ids : List (List ℕ)) (y : Inline) (l : IsLeaf y) (around : List Arou
       × Along (is_code_inline y) (wrappers around) (behind n (anchored n zs around ids) around y)
 
   -- behind a leaf
-  behind-leaf : (o : Option Inline) (i : IsGap o) (ms : List Wrapper) (xs zs : Inlines) → Whole xs → Along false ms xs
+  behind-leaf : (o : Option Inline) (i : IsGap o) (ms : List Wrapper) (xs zs : Inlines) → Whole xs
+      → Along false ms xs
       → zs ≡ deep (shared ms (wrappers around)) (with_gap o) xs → Put (shared ms (wrappers around)) zs
   behind-leaf o i ms xs zs h k e =
       subst (λ us. Whole us × Along (is_code_inline y) (wrappers around) us)

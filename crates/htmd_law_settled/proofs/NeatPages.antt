@@ -102,7 +102,8 @@ description-clean : (attributes : List AttributePair) → AreTexts attributes �
 description-clean attributes h =
     in_line-clean (text_of (codes "alt") attributes) (value-text attributes (codes "alt") h)
 
-image-has : (o : Option (List ℕ)) (attributes : List AttributePair) → AreTexts attributes → HasImage neat o attributes
+image-has : (o : Option (List ℕ)) (attributes : List AttributePair) → AreTexts attributes
+    → HasImage neat o attributes
 image-has None attributes h =
     clean-characters (description_of attributes) (description-clean attributes h)
 image-has (Some s) attributes h =

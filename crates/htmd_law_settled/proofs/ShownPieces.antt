@@ -69,7 +69,8 @@ module _ (p : ℕ → Bool) (a : AreAsciiWhite p) where
       subst (λ (c : Bool). AllShown (onto xs (cond c ([] ∷ slice_split p s) (onto_first b (slice_split p s)))))
       (sym e)
       (subst IsShown (sym (append-nil xs)) k.0, subst AllShown (onto-none p s) (split-shown s [] k.1)))
-      (λ e. subst (λ (c : Bool). AllShown (onto xs (cond c ([] ∷ slice_split p s) (onto_first b (slice_split p s)))))
+      (λ e. subst (λ (c : Bool). AllShown
+      (onto xs (cond c ([] ∷ slice_split p s) (onto_first b (slice_split p s)))))
       (sym e)
       (subst AllShown (sym (onto-more xs b (slice_split p s)))
       (split-shown s (xs ++ b ∷ []) (subst IsShown (sym (append_assoc xs (b ∷ []) s)) h))))

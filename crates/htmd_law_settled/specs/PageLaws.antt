@@ -36,7 +36,8 @@ ComesBack options d = (which : Anchors) (scripting is_rich : Bool)
 -- So it comes back, for all options with which its Markdown fits a text of the machine.
 abbrev pub PagesComeBack : Type 0
 PagesComeBack = (which : Anchors) (sight : Sight) (tree : NumberedTree) (options : DocumentOptions)
-    → sight.is_rich ≡ false → is_text_tree tree ≡ true → is_common (document_of_tree which sight tree) ≡ true
+    → sight.is_rich ≡ false → is_text_tree tree ≡ true
+    → is_common (document_of_tree which sight tree) ≡ true
     → length (markdown_of options (document_of_tree which sight tree)) < 2 ^ 64
     → ComesBack options (document_of_tree which sight tree)
 
@@ -48,7 +49,8 @@ IsStable options d = (which : Anchors) (scripting is_rich : Bool)
 -- So does its Markdown.
 abbrev pub ConversionIsStable : Type 0
 ConversionIsStable = (which : Anchors) (sight : Sight) (tree : NumberedTree) (options : DocumentOptions)
-    → sight.is_rich ≡ false → is_text_tree tree ≡ true → is_common (document_of_tree which sight tree) ≡ true
+    → sight.is_rich ≡ false → is_text_tree tree ≡ true
+    → is_common (document_of_tree which sight tree) ≡ true
     → length (markdown_of options (document_of_tree which sight tree)) < 2 ^ 64
     → IsStable options (document_of_tree which sight tree)
 
@@ -70,6 +72,7 @@ IsStableFile options d = (which : Anchors) (scripting is_rich : Bool)
 -- And so does the file.
 abbrev pub FilesAreStable : Type 0
 FilesAreStable = (which : Anchors) (sight : Sight) (tree : NumberedTree) (options : DocumentOptions)
-    → sight.is_rich ≡ false → is_text_tree tree ≡ true → is_common (document_of_tree which sight tree) ≡ true
+    → sight.is_rich ≡ false → is_text_tree tree ≡ true
+    → is_common (document_of_tree which sight tree) ≡ true
     → length (markdown_of options (document_of_tree which sight tree)) < 2 ^ 64
     → IsStableFile options (document_of_tree which sight tree)
