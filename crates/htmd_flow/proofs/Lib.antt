@@ -7,6 +7,7 @@ pub mod ElementsLemmas
 pub mod FeedLemmas
 pub mod FlatItemsLemmas
 pub mod FlowExamples
+pub mod GridWidthLemmas
 pub mod GridsLemmas
 pub mod GroupsLemmas
 pub mod LanguagesLemmas

@@ -88,17 +88,15 @@ fn free_len(taken: &[usize], row: usize) -> usize
     taken.len()
 }
 
-/// How many columns a cell takes before the next one that is taken.
+/// How many columns a cell takes before the next one that is taken. A cell looks at no more columns than it takes.
 fn columns_before(free: &[usize], row: usize, columns: u8) -> usize
     ensures value { result ≡ spec.columns_before free.now row columns }
     ensures bound { result < 256 }
 {
-    let len = free_len(free, row);
-    if len == free.len() {
-        columns as usize
-    } else {
-        len.min(columns as usize)
-    }
+    let columns = columns as usize;
+    let near = &free[..free.len().min(columns)];
+    let len = free_len(near, row);
+    if len == near.len() { columns } else { len }
 }
 
 /// Appends columns in which no cell begins.

@@ -13,6 +13,7 @@ pub mod Examples
 pub mod CodeExamples
 pub mod FirstNumberLemmas
 pub mod ListsLemmas
+pub mod ListBlocksLemmas
 pub mod ListExamples
 pub mod AddressesLemmas
 pub mod WrittenBytesLemmas

@@ -52,11 +52,12 @@ suffix_none p xs ys some none =
     ap (prefix_len p) (reverse-append xs ys)
     ∙ prefix_none p (reverse ys) (reverse xs) (omega (arith, length-reverse ys)) none
 
-suffix_len-push : (p : ℕ → Bool) (xs : List ℕ) (y : ℕ) → p y ≡ false → suffix_len p (xs ++ y ∷ []) ≡ 0
+pub suffix_len-push : (p : ℕ → Bool) (xs : List ℕ) (y : ℕ) → p y ≡ false
+    → suffix_len p (xs ++ y ∷ []) ≡ 0
 suffix_len-push p xs y other = ap (prefix_len p) (reverse-append xs (y ∷ []))
     ∙ ap (λ t. cond t (1 + prefix_len p (reverse xs)) 0) other
 
-trimmed_end-append : (p : ℕ → Bool) (xs ys : List ℕ) → suffix_len p xs ≡ 0
+pub trimmed_end-append : (p : ℕ → Bool) (xs ys : List ℕ) → suffix_len p xs ≡ 0
     → trimmed_end p (xs ++ ys) ≡ xs ++ trimmed_end p ys
 trimmed_end-append p xs ys none =
     let size : length (xs ++ ys) - suffix_len p (xs ++ ys) ≡ length xs + (length ys - suffix_len p ys) =

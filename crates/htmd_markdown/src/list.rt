@@ -1,5 +1,6 @@
 //! List items and lists (CommonMark 0.31.2, 5.2 and 5.3).
-ghost use Rattle.std.specs.Prelude.{◌≡◌, ◌-◌, ◌<◌, ◌≤◌, true, ◌++◌, IfOk, OnOk, length, map, string_bytes};
+ghost use Rattle.std.specs.Prelude.{◌≡◌, ◌-◌, ◌<◌, ◌≤◌, true, ◌++◌, IfOk, OnOk, length, map, replicate, string_bytes};
+ghost use Rattle.htmd_lexical.specs.Characters.{line_feed};
 ghost use Rattle.std.specs.Option.{option_copied, option_map};
 ghost use Rattle.htmd_text.specs.Indents.{indented_text};
 ghost use Rattle.htmd_text.specs.Trims.{trimmed_start, is_line_feed};
@@ -9,7 +10,7 @@ ghost use Rattle.htmd_markdown.specs.Lists as spec;
 
 use htmd_text::repeats::leading_len;
 use htmd_text::{
-    TrimDocumentWhitespace, digits, join_blocks, push_indented, push_repeated, trim_newlines,
+    TrimDocumentWhitespace, digits, join_blocks, push_indented, push_repeated, trim_end_line_feeds,
 };
 use std::alloc::{AllocError, Global};
 
@@ -181,13 +182,27 @@ pub fn write_list_block(mut list: String, is_in_item: bool) -> Result<Option<Str
     ensures { IfOk result (λ block. option_map string_bytes block
         ≡ spec.list_block is_in_item (string_bytes list)) }
 {
-    trim_newlines(&mut list);
+    let line_feeds = if is_in_item { 1 } else { 2 };
+    begin_with_line_feeds(&mut list, line_feeds)?;
+    trim_end_line_feeds(&mut list);
     if list.is_empty() {
         return Ok(None);
     }
-    let line_feeds = if is_in_item { "\n" } else { "\n\n" };
-    list.reserve(2 * line_feeds.len())?;
-    list.insert_str(0, line_feeds)?;
-    list.push_str(line_feeds)?;
+    push_repeated(&mut list, '\n', line_feeds)?;
     Ok(Some(list))
+}
+
+/// Puts this many line feeds in place of those at the start. A text that begins with as many isn't moved: lists in one
+/// another are long.
+fn begin_with_line_feeds(text: &mut String, count: usize) -> Result<(), AllocError>
+    requires { count ≤ 2 }
+    ensures { OnOk result (string_bytes text.new
+        ≡ replicate count line_feed ++ trimmed_start is_line_feed (string_bytes text.old)) }
+{
+    let start = leading_len(text.as_bytes(), b'\n');
+    if start == count {
+        return Ok(());
+    }
+    text.replace_range(..start, &"\n\n"[..count])?;
+    Ok(())
 }

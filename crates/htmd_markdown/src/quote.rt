@@ -1,5 +1,5 @@
 //! Block quotes.
-ghost use Rattle.std.specs.Prelude.{◌≡◌, ◌≤◌, ◌++◌, IfOk, OnOk, length, string_bytes};
+ghost use Rattle.std.specs.Prelude.{◌≡◌, ◌++◌, IfOk, OnOk, string_bytes};
 ghost use Rattle.std.specs.Str.Lines.{lines};
 ghost use Rattle.htmd_markdown.specs.Quotes as spec;
 
@@ -14,7 +14,8 @@ pub fn write_quote(alloc: Global, content: &str) -> Result<String, AllocError>
 {
     let rest = &content[leading_len(content.as_bytes(), b'\n')..];
     let content = rest.trim_end_document_whitespace();
-    let room = content.len().saturating_add(2 * line_feed_count(content));
+    // Enough for lines of sixteen bytes and more.
+    let room = content.len().saturating_add(content.len() / 8);
     let mut text = String::with_capacity(alloc, room.saturating_add(6))?;
     text.push_str("\n\n")?;
     push_quoted_lines(&mut text, content)?;
@@ -34,11 +35,4 @@ fn push_quoted_lines(text: &mut String, content: &str) -> Result<(), AllocError>
         is_first = false;
     }
     Ok(())
-}
-
-/// How many line feeds the text has.
-fn line_feed_count(text: &str) -> usize
-    ensures { result ≤ length text.now }
-{
-    text.as_bytes().iter().filter(|b| **b == b'\n').count()
 }
