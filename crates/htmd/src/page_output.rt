@@ -31,7 +31,7 @@ use htmd_document::Document;
 use htmd_encodings::page_text;
 use htmd_html5::parse_html5;
 use htmd_nodes::Tree;
-use htmd_tree::behind_mark;
+use htmd_scanning::behind_mark;
 use htmd_walk::element_handler::{Registrar, Registry};
 use htmd_walk::options::Options;
 use std::alloc::{AllocError, Global};

@@ -2,22 +2,11 @@
 ghost use Rattle.std.specs.Prelude.{◌≡◌, IfOk};
 ghost use Rattle.std.specs.Cow.{cow_str_bytes};
 ghost use Rattle.std.specs.List.{list_all};
-ghost use Rattle.htmd_lexical.specs.ByteOrderMarks.{behind_mark};
 ghost use Rattle.htmd_html5_tokens.specs.Preprocessing as spec;
 
-use htmd_scanning::with_line_feeds;
+use htmd_scanning::{behind_mark, with_line_feeds};
 use std::alloc::{AllocError, Global};
 use std::borrow::CowStr;
-
-/// The text without a byte order mark at its beginning.
-fn after_mark(text: &str) -> &str
-    ensures { result.now ≡ behind_mark text.now }
-{
-    match text.strip_prefix("\u{feff}") {
-        Some(rest) => rest,
-        None => text,
-    }
-}
 
 /// Whether no byte is CR. All are looked at, so that a processor can compare many at once.
 fn has_no_returns(bytes: &[u8]) -> bool
@@ -36,7 +25,7 @@ fn has_no_returns(bytes: &[u8]) -> bool
 pub fn preprocess(alloc: Global, text: &str) -> Result<CowStr<'_>, AllocError>
     ensures { IfOk result (λ t. cow_str_bytes t ≡ spec.preprocessed text.now) }
 {
-    let marked = after_mark(text);
+    let marked = behind_mark(text);
     if has_no_returns(marked.as_bytes()) {
         return Ok(CowStr::Borrowed(marked));
     }

@@ -1,7 +1,18 @@
 //! How a text begins. Each character that the readers look for is ASCII, and so one byte.
 ghost use Rattle.std.specs.Prelude.{◌≡◌, ◌<◌, true, false, length, drop, MatchOption, nat_lt};
 ghost use Rattle.std.specs.List.{list_all};
+ghost use Rattle.htmd_lexical.specs.ByteOrderMarks as marks;
 ghost use Rattle.htmd_lexical.specs.CharacterClasses as classes;
+
+/// The text without a byte order mark at its beginning.
+pub fn behind_mark(text: &str) -> &str
+    ensures { result.now ≡ marks.behind_mark text.now }
+{
+    match text.strip_prefix("\u{feff}") {
+        Some(rest) => rest,
+        None => text,
+    }
+}
 
 /// Whether the text begins with this byte.
 pub fn first_is(bytes: &[u8], byte: u8) -> bool

@@ -12,7 +12,7 @@ mod runs;
 mod tag_parts;
 
 pub use beginnings::{
-    begins_in_any_case, begins_with, first_is, strip, strip_byte, strip_in_any_case,
+    begins_in_any_case, begins_with, behind_mark, first_is, strip, strip_byte, strip_in_any_case,
 };
 pub use distinct::are_distinct;
 pub use end_tags::{begins_own_end, goes_on_with_name, raw_content_len};

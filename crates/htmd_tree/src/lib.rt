@@ -15,4 +15,4 @@ pub use htmd_nodes::{
 };
 pub use lines::line_and_column;
 pub use raw_blocks::raw_block;
-pub use reader::{ReadError, behind_mark, body_of, read_html};
+pub use reader::{ReadError, body_of, read_html};

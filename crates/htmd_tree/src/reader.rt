@@ -38,7 +38,6 @@ mod texts;
 
 use crate::reader::names::{KnownName, known_name};
 use crate::reader::surroundings::Surroundings;
-pub use beginning::behind_mark;
 pub use body::body_of;
 use htmd_grammar::FaultKind;
 use htmd_grammar::laws::{faults_are_right, steps_read_the_grammar};

@@ -9,24 +9,13 @@ ghost use Rattle.htmd_tree.specs.OpenItems.{stack_items};
 ghost use Rattle.htmd_tree.specs.OpenNodes.{Holds};
 ghost use Rattle.htmd_lexical.specs.CharacterClasses as classes;
 ghost use Rattle.htmd_grammar.specs.Comments as comments;
-ghost use Rattle.htmd_lexical.specs.ByteOrderMarks as documents;
 
 use crate::reader::scan::{Class, split_run};
 use crate::reader::surroundings::Surroundings;
 use crate::reader::{OpenNode, Reader};
 use htmd_nodes::{NodeId, Tree, TreeError};
-use htmd_scanning::{strip_byte, strip_in_any_case};
+use htmd_scanning::{behind_mark, strip_byte, strip_in_any_case};
 use std::alloc::Global;
-
-/// The text, which is UTF-8, without a byte order mark at its beginning.
-pub fn behind_mark(text: &str) -> &str
-    ensures { result.now ≡ documents.behind_mark text.now }
-{
-    match text.strip_prefix("\u{feff}") {
-        Some(rest) => rest,
-        None => text,
-    }
-}
 
 /// What follows the end of a doctype.
 fn behind_doctype_end(text: &str) -> Option<&str>
