@@ -1,10 +1,11 @@
 -- Where open elements stand: what a place says of a scope, and what changes where an element is opened or closed.
 use Rattle.std.proofs.Common.{◌≡◌, ℕ, suc, ◌+◌, ◌<◌, ◌≤◌, Bool, true, false, ◌||◌, cond, List, [], ◌∷◌, length}
 use Rattle.std.proofs.Common.{get_or, set, take, drop, ◌-◌, Option, Some, None, vec_len, ◌++◌, refl, sym, ap, ◌∙◌}
-use Rattle.std.proofs.Common.{subst, arith}
+use Rattle.std.proofs.Common.{subst, arith, max}
 use Rattle.std.proofs.lemmas.Bool.{true≢false, eqb-true}
 use Rattle.std.proofs.lemmas.Bool.Decides.{nat_tests}
 use Rattle.std.proofs.lemmas.List.{get_or-set_same, get_or-set_other, length-set, length-append, get_or_append_left}
+use Rattle.std.proofs.lemmas.List.Folds.{list_any-append}
 use Rattle.std.specs.HashMap.{get_by_text}
 use Rattle.std.specs.List.{list_any}
 use Rattle.std.specs.Map.{update}
@@ -13,13 +14,15 @@ use Rattle.std.specs.Str.{bytes_eq}
 use Rattle.htmd_lexical.proofs.BytesLemmas.{same_bytes}
 use Rattle.htmd_lexical.proofs.Cases.{test}
 use Rattle.htmd_html5_state.specs.Adoption.{bounds_any}
+use Rattle.htmd_html5_state.specs.Foreign.{is_html, is_in_any_case, is_spelled_so}
+use Rattle.htmd_html5_state.specs.ForeignPlaces.{AreNumbered, has_spelling, is_spelled, lower, spelling_place}
 use Rattle.htmd_html5_state.specs.Names.{NameValue, ElementNameValue, html, svg, math, known, other, same_element_name}
 use Rattle.htmd_html5_state.specs.OpenElements.{OpenValue, is_in, is_node, has_name, inside, scope_has}
 use Rattle.htmd_html5_state.specs.OpenElements.{is_node_in_scope}
 use Rattle.htmd_html5_state.specs.OpenElements.{is_open_node, pop}
 use Rattle.htmd_html5_state.specs.OpenViews.{open_of, stack_of}
-use Rattle.htmd_html5_state.specs.Places.{innermost, bounds_in, is_from, bound_of, name_place, has_room}
-use Rattle.htmd_html5_state.specs.Places.{innermost_named}
+use Rattle.htmd_html5_state.specs.Places.{innermost, back_to, has_one, bounds_in, is_from, bound_of, name_place}
+use Rattle.htmd_html5_state.specs.Places.{has_room, innermost_named}
 use Rattle.htmd_html5_state.specs.Places.{place_of_name, IsAround, IsLinked, HasRoom, AllHaveRoom, IsPlaced}
 use Rattle.htmd_html5_state.specs.Sets.{bounds, bounds_known, bounds_list_item, bounds_scope, is_table_context}
 use Rattle.htmd_html5_state.specs.Sets.{bounds_button, is_special, is_template, stops_items}
@@ -28,6 +31,7 @@ use Rattle.htmd_html5_state.specs.declared.names.TagName.TheVariants.{Address, A
 use Rattle.htmd_html5_state.specs.declared.names.TagName.TheVariants.{Marquee, Object, Ol, P, Table, Td, Template, Th}
 use Rattle.htmd_html5_state.specs.declared.names.TagName.TheVariants.{Ul}
 use Rattle.htmd_html5_state.specs.declared.open_elements.OpenElement.{OpenElement}
+use Rattle.htmd_html5_state.specs.declared.foreign_places.ForeignPlaces.{ForeignPlaces}
 use Rattle.htmd_html5_state.specs.declared.places.Around.{Around}
 use Rattle.htmd_html5_state.specs.declared.places.Bounds.{Bounds}
 use Rattle.htmd_html5_state.specs.TagNumbers.{number}
@@ -102,7 +106,7 @@ pub innermost-same : (p q : OpenValue → Bool) → ((e : OpenValue) → p e ≡
 innermost-same p q same [] = refl
 innermost-same p q same (e ∷ es) = rw (same e, innermost-same p q same es) refl
 
-none-innermost : (es : List OpenValue) → innermost (λ e. false) es ≡ 0
+pub none-innermost : (es : List OpenValue) → innermost (λ e. false) es ≡ 0
 none-innermost [] = refl
 none-innermost (e ∷ es) = none-innermost es
 
@@ -123,6 +127,46 @@ one_of b [] es = rw (none-innermost es) (grind (arith, nat_tests))
 one_of b (t ∷ ts) es =
     either b (is_in (Only t)) (λ e. list_any (λ u. is_in (Only u) e) ts) es
     ∙ ap (λ (r : Bool). is_from b (innermost (is_in (Only t)) es) || r) (one_of b ts es)
+
+-- the further in of two
+pub innermost-either : (p q : OpenValue → Bool) (es : List OpenValue)
+    → innermost (λ e. p e || q e) es ≡ max (innermost q es) (innermost p es)
+innermost-either p q [] = refl
+innermost-either p q (e ∷ es) =
+    let w = innermost-within p es in
+    let v = innermost-within q es in
+    test (p e)
+    (λ t. test (q e) (λ s. rw (t, s) (omega arith)) (λ s. rw (t, s) (omega (arith, v))))
+    (λ t. test (q e) (λ s. rw (t, s) (omega (arith, w))) (λ s. rw (t, s) (innermost-either p q es)))
+
+or_false : (b : Bool) → (b || false) ≡ b
+or_false true = refl
+or_false false = refl
+
+-- one name more
+pub innermost-more : (ts : List TagName) (t : TagName) (es : List OpenValue)
+    → innermost (has_one (ts ++ t ∷ [])) es
+    ≡ max (innermost (has_name (html (known t))) es) (innermost (has_one ts) es)
+innermost-more ts t es =
+    innermost-same (has_one (ts ++ t ∷ [])) (λ e. has_one ts e || is_in (Only t) e)
+    (λ e. list_any-append (λ u. is_in (Only u) e) ts (t ∷ [])
+    ∙ ap (λ (r : Bool). has_one ts e || r) (or_false (is_in (Only t) e))) es
+    ∙ (innermost-either (has_one ts) (is_in (Only t)) es
+    ∙ ap (λ (n : ℕ). max n (innermost (has_one ts) es))
+    (innermost-same (is_in (Only t)) (has_name (html (known t))) (only-named t) es))
+
+pub back-place : (p : OpenValue → Bool) (es : List OpenValue)
+    → drop (length es - innermost p es) es ≡ back_to p es
+back-place p [] = refl
+back-place p (e ∷ es) =
+    let w = innermost-within p es in
+    test (p e)
+    (λ t.
+    let none : length (e ∷ es) - suc (length es) ≡ 0 = omega arith in
+    rw t (ap (λ (k : ℕ). drop k (e ∷ es)) none))
+    (λ t.
+    let more : length (e ∷ es) - innermost p es ≡ suc (length es - innermost p es) = omega (arith, w) in
+    rw t (ap (λ (k : ℕ). drop k (e ∷ es)) more ∙ back-place p es))
 
 -- ---- an element is opened, or closed
 
@@ -301,11 +345,19 @@ linked-bounds around depth a read l (e ∷ es) len h scope =
     (subst (λ (x : Around). IsAround x e es) (sym (read ∙ ap (λ (k : ℕ). get_or around k a) at)) (h.1 a)).bounds
     scope
 
+-- the innermost element of HTML among this many elements
+pub linked-html : (around : List Around) (depth : ℕ) (a : Around) → a ≡ get_or around (depth - 1) a → 0 < depth
+    → (es : List OpenValue) → length es ≡ depth → IsLinked around es → a.html ≡ innermost is_html es
+linked-html around depth a read l [] len h = absurd (omega (arith, l, len))
+linked-html around depth a read l (e ∷ es) len h =
+    let at : depth - 1 ≡ length es = omega (arith, len) in
+    (subst (λ (x : Around). IsAround x e es) (sym (read ∙ ap (λ (k : ℕ). get_or around k a) at)) (h.1 a)).html
+
 named-place : (p : Places) (es : List OpenValue) → IsPlaced p es → (name : ElementNameValue)
     → place_of_name p.names name ≡ innermost_named name es
 named-place p es at (html m) = at.names m
-named-place p es at (svg s) = refl
-named-place p es at (math s) = refl
+named-place p es at (svg s) = at.spellings s
+named-place p es at (math s) = at.spellings s
 
 same-named : (name : ElementNameValue) (m : NameValue) (es : List OpenValue)
     → same_element_name name (html m) ≡ true
@@ -314,16 +366,32 @@ same-named (html n) m es e = ap (λ (x : NameValue). innermost (has_name (html x
 same-named (svg s) m es e = absurd (true≢false (sym e))
 same-named (math s) m es e = absurd (true≢false (sym e))
 
+spelled-alike : (s t : List ℕ) → is_in_any_case s t ≡ true → (name : ElementNameValue)
+    → is_spelled_so s name ≡ is_spelled_so t name
+spelled-alike s t e (html n) = refl
+spelled-alike s t e (svg r) = ap (bytes_eq (lower r)) (same_bytes (lower s) (lower t) e)
+spelled-alike s t e (math r) = ap (bytes_eq (lower r)) (same_bytes (lower s) (lower t) e)
+
+same-spelled : (name : ElementNameValue) (s : List ℕ) (es : List OpenValue) → is_spelled_so s name ≡ true
+    → innermost_named name es ≡ innermost (is_spelled s) es
+same-spelled (html n) s es e = absurd (true≢false (sym e))
+same-spelled (svg r) s es e =
+    innermost-same (is_spelled r) (is_spelled s) (λ x. spelled-alike r s e x.name) es
+same-spelled (math r) s es e =
+    innermost-same (is_spelled r) (is_spelled s) (λ x. spelled-alike r s e x.name) es
+
 -- what is known of an element that is opened
 pub around-is : (p : Places) (e : OpenValue) (es : List OpenValue) → IsPlaced p es → (place : ℕ)
     → place ≡ suc (length es)
     → (a : Around) → a.name ≡ place_of_name p.names e.name → a.node ≡ get_or p.nodes.items e.node 0
+    → a.html ≡ cond (is_html e) place (innermost is_html es)
     → ((scope : Scope) → bound_of a.bounds scope
     ≡ cond (bounds scope e.name) place (innermost (bounds_in scope) es))
     → IsAround a e es
-around-is p e es at place here a name node bound = record {
+around-is p e es at place here a name node inner bound = record {
   name = name ∙ named-place p es at e.name;
   node = node ∙ at.nodes e.node;
+  html = inner ∙ ap (λ (x : ℕ). cond (is_html e) x (innermost is_html es)) here;
   bounds = λ scope. bound scope
       ∙ ap (λ (x : ℕ). cond (bounds scope e.name) x (innermost (bounds_in scope) es)) here;
 }
@@ -334,11 +402,17 @@ module _ (p q : Places) (e : OpenValue) (es : List OpenValue)
       → IsAround a e es
       → ((m : NameValue) → name_place q.names m
       ≡ cond (same_element_name e.name (html m)) place (name_place p.names m))
+      → ((s : List ℕ) → spelling_place q.names.foreign s
+      ≡ cond (is_spelled s e) place (spelling_place p.names.foreign s))
+      → AreNumbered q.names.foreign
       → ((n : ℕ) → get_or q.nodes.items n 0 ≡ cond (e.node == n) place (get_or p.nodes.items n 0))
       → q.around.items ≡ set p.around.items (length es) a → length es < vec_len p.around
       → vec_len q.around ≡ vec_len p.around → IsPlaced q (e ∷ es)
-  placed-enter at room place here a is names nodes around within len = record {
+  placed-enter at room place here a is names spellings numbers nodes around within len = record {
     names = entered (name_place p.names) (name_place q.names) (λ m. has_name (html m)) e es at.names place here names;
+    spellings = entered (spelling_place p.names.foreign) (spelling_place q.names.foreign) is_spelled e es
+        at.spellings place here spellings;
+    numbered = numbers;
     nodes = entered (λ n. get_or p.nodes.items n 0) (λ n. get_or q.nodes.items n 0)
         (λ n. is_node n) e es at.nodes place
         here nodes;
@@ -351,13 +425,19 @@ module _ (p q : Places) (e : OpenValue) (es : List OpenValue)
   pub placed-leave : IsPlaced p (e ∷ es) → (a : Around) → a ≡ get_or p.around.items (length es) a
       → ((m : NameValue) → name_place q.names m
       ≡ cond (same_element_name e.name (html m)) a.name (name_place p.names m))
+      → ((s : List ℕ) → spelling_place q.names.foreign s
+      ≡ cond (is_spelled s e) a.name (spelling_place p.names.foreign s))
+      → AreNumbered q.names.foreign
       → ((n : ℕ) → get_or q.nodes.items n 0 ≡ cond (e.node == n) a.node (get_or p.nodes.items n 0))
       → q.around.items ≡ p.around.items → vec_len q.around ≡ vec_len p.around → IsPlaced q es
-  placed-leave at a read names nodes around len =
+  placed-leave at a read names spellings numbers nodes around len =
       let is : IsAround a e es = subst (λ (x : Around). IsAround x e es) (sym read) (at.linked.1 a) in
       record {
         names = left (name_place p.names) (name_place q.names) (λ m. has_name (html m)) e es at.names a.name
             (λ m t. is.name ∙ same-named e.name m es t) names;
+        spellings = left (spelling_place p.names.foreign) (spelling_place q.names.foreign) is_spelled e es
+            at.spellings a.name (λ s t. is.name ∙ same-spelled e.name s es t) spellings;
+        numbered = numbers;
         nodes = left (λ n. get_or p.nodes.items n 0) (λ n. get_or q.nodes.items n 0)
             (λ n. is_node n) e es at.nodes a.node
             (λ n t. is.node ∙ ap (λ (x : ℕ). innermost (is_node x) es) (eqb-true e.node n t)) nodes;
@@ -367,13 +447,18 @@ module _ (p q : Places) (e : OpenValue) (es : List OpenValue)
       }
 
 pub placed-kept : (p q : Places) → ((m : NameValue) → name_place q.names m ≡ name_place p.names m)
+    → (AreNumbered p.names.foreign → (s : List ℕ)
+    → spelling_place q.names.foreign s ≡ spelling_place p.names.foreign s)
+    → (AreNumbered p.names.foreign → AreNumbered q.names.foreign)
     → ((n : ℕ) → get_or q.nodes.items n 0 ≡ get_or p.nodes.items n 0)
     → ((es : List OpenValue) → IsLinked p.around.items es → IsLinked q.around.items es)
     → vec_len p.around ≤ vec_len q.around
     → ((x : OpenValue) → HasRoom p x → HasRoom q x) → (stack : List OpenValue) → IsPlaced p stack
     → IsPlaced q stack
-placed-kept p q names nodes linked longer kept stack at = record {
+placed-kept p q names spellings numbers nodes linked longer kept stack at = record {
   names = λ m. names m ∙ at.names m;
+  spellings = λ s. spellings at.numbered s ∙ at.spellings s;
+  numbered = numbers at.numbered;
   nodes = λ n. nodes n ∙ at.nodes n;
   linked = linked stack at.linked;
   within = let w = at.within in omega (arith, w, longer);
@@ -431,7 +516,7 @@ tag-put p q t n place is put others (known u) =
     (ap (λ (k : ℕ). k == number u) is ∙ number-tests t u)
 tag-put p q t n place is put others (other s) = ap (λ (o : Option ℕ). unwrap_or o 0) (others s)
 
-module _ (p q : NamePlaces) (bs : List ℕ) (place : ℕ) (tags : q.tags ≡ p.tags)
+module _ (p q : NamePlaces) (bs : List ℕ) (place : ℕ) (tags : q.tags ≡ p.tags) (foreign : q.foreign ≡ p.foreign)
     (updates : (s : List ℕ) → get_by_text q.others s ≡ update bytes_eq (get_by_text p.others) bs (Some place) s)
   where
     pub other-put : (m : NameValue) → name_place q m
@@ -448,14 +533,14 @@ module _ (p q : NamePlaces) (bs : List ℕ) (place : ℕ) (tags : q.tags ≡ p.t
         ∙ test (bytes_eq bs s)
         (λ t. rw t (sym (ap (λ (x : List ℕ). is_some (get_by_text p.others x)) (sym (same_bytes bs s t)) ∙ held)))
         (λ t. rw t refl)
-    other-room held (svg s) = refl
-    other-room held (math s) = refl
+    other-room held (svg s) = ap (λ (f : ForeignPlaces). has_spelling f s) foreign
+    other-room held (math s) = ap (λ (f : ForeignPlaces). has_spelling f s) foreign
 
     pub other-kept : (m : ElementNameValue) → has_room p m ≡ true → has_room q m ≡ true
     other-kept (html (known u)) h = refl
     other-kept (html (other s)) h = ap is_some (updates s) ∙ test (bytes_eq bs s) (λ t. rw t refl) (λ t. rw t h)
-    other-kept (svg s) h = refl
-    other-kept (math s) h = refl
+    other-kept (svg s) h = ap (λ (f : ForeignPlaces). has_spelling f s) foreign ∙ h
+    other-kept (math s) h = ap (λ (f : ForeignPlaces). has_spelling f s) foreign ∙ h
 
 none-zero : (o : Option ℕ) → is_some o ≡ false → unwrap_or o 0 ≡ 0
 none-zero None h = refl

@@ -2,7 +2,7 @@
 use Rattle.std.proofs.Common.{◌≡◌, ℕ, suc, ◌+◌, ◌-◌, ◌<◌, ◌≤◌, true, false, List, [], ◌∷◌, ◌++◌, length}
 use Rattle.std.proofs.Common.{Some, None, cond, take, drop, get_or, reverse, refl, sym, ap, ◌∙◌, arith, add-one}
 use Rattle.std.proofs.lemmas.List.{take_more, reverse-reverse, map-append, reverse-append, append_assoc, take_at}
-use Rattle.std.proofs.lemmas.List.{drop_at, length-append}
+use Rattle.std.proofs.lemmas.List.{drop_at, length-append, length-drop}
 use Rattle.std.proofs.lemmas.List.{length_push, length-map, length-reverse, take-append-drop, drop_more, length-take-le}
 use Rattle.std.proofs.lemmas.Bool.{true≢false, ne_eqb}
 use Rattle.std.proofs.lemmas.List.Folds.{list_any-append}
@@ -10,7 +10,7 @@ use Rattle.std.proofs.lemmas.Bool.Decides.{nat_tests}
 use Rattle.std.specs.List.{list_any}
 use Rattle.std.specs.Prelude.{◌==◌, remove}
 use Rattle.htmd_lexical.proofs.Cases.{test}
-use Rattle.htmd_html5_state.specs.OpenElements.{OpenValue, is_in, is_open_node, is_node, without}
+use Rattle.htmd_html5_state.specs.OpenElements.{OpenValue, is_empty, is_in, is_open_node, is_node, without}
 use Rattle.htmd_html5_state.specs.OpenElements.{outermost, first_open, second_open}
 use Rattle.htmd_html5_state.specs.Adoption.{Furthest, furthest_block, is_special_element}
 use Rattle.htmd_html5_state.specs.OpenViews.{open_of, all_open_of, stack_of, is_special, IsInnermost, IsFirstSpecial}
@@ -141,6 +141,23 @@ stack-more xs i x l is =
 
 pub length-stack-take : (xs : List OpenElement) (i : ℕ) → i ≤ length xs → length (stack_of (take i xs)) ≡ i
 length-stack-take xs i l = length-stack_of (take i xs) ∙ length-take-le i xs l
+
+empty-length : (es : List OpenValue) → (length es == 0) ≡ is_empty es
+empty-length [] = grind (arith, nat_tests)
+empty-length (e ∷ es) = grind (arith, nat_tests)
+
+pub empty-stack : (xs : List OpenElement) → (length xs == 0) ≡ is_empty (stack_of xs)
+empty-stack xs = ap (λ (n : ℕ). n == 0) (sym (length-stack_of xs)) ∙ empty-length (stack_of xs)
+
+pub stack-take : (xs : List OpenElement) (k : ℕ) → k ≤ length xs
+    → drop (length (stack_of xs) - k) (stack_of xs) ≡ stack_of (take k xs)
+stack-take xs k l =
+    let inner : List OpenValue = stack_of (drop k xs) in
+    let len : length inner ≡ length (stack_of xs) - k =
+    length-stack_of (drop k xs) ∙ (length-drop k xs ∙ ap (λ (n : ℕ). n - k) (sym (length-stack_of xs))) in
+    ap (drop (length (stack_of xs) - k))
+    (sym (ap stack_of (take-append-drop k xs)) ∙ stack_of-append (take k xs) (drop k xs))
+    ∙ drop_at inner (stack_of (take k xs)) (length (stack_of xs) - k) len
 
 pub stack-around : (xs : List OpenElement) (i : ℕ) (x : OpenElement) → i < length xs → x ≡ get_or xs i x
     → stack_of xs ≡ stack_of (drop (i + 1) xs) ++ open_of x ∷ stack_of (take i xs)

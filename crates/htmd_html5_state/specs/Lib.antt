@@ -16,9 +16,11 @@ pub mod Views
 pub mod OpenViews
 pub mod TagNumbers
 pub mod SetMembers
+pub mod ForeignPlaces
 pub mod Places
 pub mod FormattingViews
 pub mod AdoptionViews
 pub mod ForeignViews
+pub mod ResettingViews
 pub mod StateViews
 pub mod AppendedTexts

@@ -1,10 +1,13 @@
 //! Elements of foreign content: their names, and what the current node is.
-ghost use Rattle.std.specs.Prelude.{◌≡◌, ◌≤◌, ◌-◌, map, length, drop, IfOk};
+ghost use Rattle.std.specs.Prelude.{◌≡◌, ◌≤◌, ◌-◌, ℕ, List, map, length, drop, IfOk};
 ghost use Rattle.htmd_html5_state.specs.Nodes.{attributes_of};
 ghost use Rattle.htmd_html5_state.specs.Foreign as spec;
+ghost use Rattle.htmd_html5_state.specs.ForeignPlaces.{is_spelled};
 ghost use Rattle.htmd_html5_state.specs.Insertion.{current};
 ghost use Rattle.htmd_html5_state.specs.Names.{element_name_of};
+ghost use Rattle.htmd_html5_state.specs.OpenElements.{OpenValue};
 ghost use Rattle.htmd_html5_state.specs.OpenViews.{open_of, stack_of};
+ghost use Rattle.htmd_html5_state.specs.Places.{innermost};
 ghost use Rattle.htmd_html5_state.specs.State.{on_stack};
 ghost use Rattle.htmd_html5_state.specs.Views.{kind_seen};
 ghost use Rattle.htmd_lexical.specs.Attributes.{pairs_of};
@@ -13,7 +16,7 @@ ghost use Rattle.htmd_html5_state.specs.ForeignViews.{end_of};
 use crate::attributes::value;
 use crate::document::{Document, NodeKind};
 use crate::names::{ElementName, Namespace};
-use crate::open_elements::{OpenElement, split_innermost};
+use crate::open_elements::{OpenElement, OpenElements, split_innermost};
 use crate::sets::{is_math_text, is_svg_point};
 use crate::state::HtmlState;
 use htmd_lexical::Attribute;
@@ -291,7 +294,23 @@ enum ForeignEnd {
     Nothing,
 }
 
-fn foreign_end(elements: &[OpenElement], name: &str) -> ForeignEnd
+/// What an end tag does by the places of the innermost foreign element that is spelled so and of the innermost element
+/// of HTML. The outermost element is never closed.
+fn end_by_places(spelled: usize, html: usize) -> ForeignEnd
+    ensures { (s : List ℕ) (stack : List OpenValue) → spelled ≡ innermost (is_spelled s) stack
+        → html ≡ innermost spec.is_html stack → end_of stack result ≡ spec.foreign_end s stack }
+{
+    if spelled <= 1 && html <= 1 {
+        ForeignEnd::Nothing
+    } else if spelled > html {
+        ForeignEnd::Closes(spelled - 1)
+    } else {
+        ForeignEnd::ByMode
+    }
+}
+
+/// What an end tag does, found by a walk: for a name with capitals, as no tokenizer gives it.
+fn end_by_walk(elements: &[OpenElement], name: &str) -> ForeignEnd
     ensures { end_of (stack_of elements.now) result ≡ spec.foreign_end name.now (stack_of elements.now) }
 {
     let mut rest = elements;
@@ -308,6 +327,15 @@ fn foreign_end(elements: &[OpenElement], name: &str) -> ForeignEnd
         rest = outer;
     }
     ForeignEnd::Nothing
+}
+
+fn foreign_end(stack: &OpenElements, name: &str) -> ForeignEnd
+    ensures { end_of stack.now result ≡ spec.foreign_end name.now stack.now }
+{
+    match stack.find_foreign(name) {
+        Some(spelled) => end_by_places(spelled, stack.html_place()),
+        None => end_by_walk(stack.as_slice(), name),
+    }
 }
 
 impl HtmlState {
@@ -375,7 +403,7 @@ impl HtmlState {
         ensures by_mode { result ≡ spec.goes_by_mode (spec.foreign_end name.now self.old.stack) }
         ensures closed { self.new ≡ spec.after_foreign_end (spec.foreign_end name.now self.old.stack) self.old }
     {
-        match foreign_end(self.stack.as_slice(), name) {
+        match foreign_end(&self.stack, name) {
             ForeignEnd::ByMode => true,
             ForeignEnd::Closes(len) => {
                 self.stack.truncate(len);

@@ -7,6 +7,7 @@ mod attributes;
 mod children;
 mod document;
 mod foreign;
+mod foreign_places;
 mod formatting;
 mod formatting_list;
 mod insertion;

@@ -1,16 +1,18 @@
 //! The stack of open elements.
-ghost use Rattle.std.specs.Prelude.{◌≡◌, ◌-◌, ◌<◌, ◌≤◌, ◌^◌, ◌∷◌, ◌++◌, [], length, drop, take, remove, vec_len, true};
+ghost use Rattle.std.specs.Prelude.{◌≡◌, ◌-◌, ◌<◌, ◌≤◌, ◌^◌, ◌∷◌, ◌++◌, [], length, drop, take, remove, vec_len};
 ghost use Rattle.std.specs.Prelude.{false, IfOk, OnOk, IfSome, MatchOption, option_map};
 ghost use Rattle.std.specs.List.{list_any};
+ghost use Rattle.htmd_html5_state.specs.Foreign.{is_html};
+ghost use Rattle.htmd_html5_state.specs.ForeignPlaces.{is_spelled};
 ghost use Rattle.htmd_html5_state.specs.Names.{element_name_of, name_of, html};
 ghost use Rattle.htmd_html5_state.specs.OpenElements as spec;
 ghost use Rattle.htmd_html5_state.specs.Insertion as insertion;
 ghost use Rattle.htmd_html5_state.specs.Adoption as adoption;
-ghost use Rattle.htmd_html5_state.specs.Places.{IsPlaced, AllHaveRoom, innermost, bounds_in};
+ghost use Rattle.htmd_html5_state.specs.Places.{IsPlaced, AllHaveRoom, innermost, back_to, bounds_in, has_one};
 ghost use Rattle.htmd_html5_state.specs.OpenViews.{open_of, all_open_of, stack_of, furthest_of, is_special};
 ghost use Rattle.htmd_html5_state.specs.OpenViews.{IsInnermost, IsFirstSpecial};
 
-use crate::names::{ElementName, HtmlName};
+use crate::names::{ElementName, HtmlName, TagName};
 use crate::places::{Places, is_from};
 use crate::sets::{NameSet, Scope};
 use std::alloc::{AllocError, Global};
@@ -65,23 +67,6 @@ pub(crate) fn split_innermost(elements: &[OpenElement]) -> Option<(&[OpenElement
         [outer @ .., element] => Some((outer, element)),
         [] => None,
     }
-}
-
-/// Whether one of these is in scope, found by a walk.
-pub(crate) fn is_in_scope(elements: &[OpenElement], set: NameSet, scope: Scope) -> bool
-    ensures { result ≡ spec.is_in_scope set scope (stack_of elements.now) }
-{
-    let mut rest = elements;
-    while let Some((outer, element)) = split_innermost(rest) {
-        if set.holds(&element.name) {
-            return true;
-        }
-        if scope.is_bound(&element.name) {
-            return false;
-        }
-        rest = outer;
-    }
-    false
 }
 
 /// The place of the innermost element with this node.
@@ -285,6 +270,27 @@ impl OpenElements {
         ensures { result ≡ innermost (bounds_in scope) self.now }
     {
         self.places.bound(self.elements.len(), scope)
+    }
+
+    /// The place of the innermost element of HTML.
+    pub(crate) fn html_place(&self) -> usize
+        ensures { result ≡ innermost is_html self.now }
+    {
+        self.places.html_place(self.elements.len())
+    }
+
+    /// The place of the innermost foreign element that is spelled so in any case, where that is known.
+    pub(crate) fn find_foreign(&self, text: &str) -> Option<usize>
+        ensures { IfSome result (λ place. place ≡ innermost (is_spelled text.now) self.now) }
+    {
+        self.places.find_foreign(text)
+    }
+
+    /// The elements from the outermost to the innermost that has one of these names.
+    pub(crate) fn up_to_any(&self, tags: &[TagName]) -> &[OpenElement]
+        ensures { stack_of result.now ≡ back_to (has_one tags.now) self.now }
+    {
+        &self.elements[..self.places.place_of_any(tags)]
     }
 
     /// Whether one of these is open.

@@ -1,23 +1,26 @@
 //! The places of open elements on the stack, so that no question about it needs a walk. A place is counted from 1 at
 //! the outermost element; 0 is nowhere.
-ghost use Rattle.std.specs.Prelude.{◌≡◌, ◌∷◌, [], ◌<◌, ◌≤◌, List, OnOk, cond, true, false, length, get_or, vec_len};
-ghost use Rattle.std.specs.Prelude.{string_bytes, ℕ, ◌==◌, if◌then◌else◌};
-ghost use Rattle.std.specs.HashMap.{get_by_text};
+ghost use Rattle.std.specs.Prelude.{◌≡◌, ◌∷◌, [], ◌<◌, ◌≤◌, List, OnOk, IfSome, cond, true, false, length, ◌||◌};
+ghost use Rattle.std.specs.Prelude.{get_or, vec_len, ◌&&◌, string_bytes, ℕ, ◌==◌, if◌then◌else◌};
 ghost use Rattle.std.specs.List.{list_any};
+ghost use Rattle.htmd_html5_state.specs.Foreign.{is_html, is_html_name, is_spelled_so};
+ghost use Rattle.htmd_html5_state.specs.ForeignPlaces.{AreNumbered, is_spelled, spelling_place};
 ghost use Rattle.htmd_html5_state.specs.Names.{NameValue, ElementNameValue, element_name_of, name_of};
 ghost use Rattle.htmd_html5_state.specs.Names.{same_element_name, html, known, other};
 ghost use Rattle.htmd_html5_state.specs.OpenElements as spec;
 ghost use Rattle.htmd_html5_state.specs.OpenElements.{OpenValue};
 ghost use Rattle.htmd_html5_state.specs.OpenViews.{open_of};
 ghost use Rattle.htmd_html5_state.specs.Places as places;
-ghost use Rattle.htmd_html5_state.specs.Sets.{bounds};
+ghost use Rattle.htmd_html5_state.specs.Sets.{bounds, has_foreign_bounds, is_select};
 ghost use Rattle.htmd_html5_state.specs.declared.sets.Scope.{Scope};
 
+use crate::foreign_places::ForeignPlaces;
 use crate::names::{ElementName, HtmlName, TAGS, TagName};
 use crate::open_elements::OpenElement;
-use crate::sets::{NameSet, Scope};
+use crate::sets::{NameSet, Scope, is_math_bound, is_svg_point};
 use std::alloc::{AllocError, Global};
 use std::collections::HashMap;
+use std::mem;
 
 /// The place of the innermost bound of each scope.
 #[derive(Clone, Copy)]
@@ -33,20 +36,22 @@ struct Bounds {
 }
 
 /// What is known of an open element: the places of the elements around it that have the same name and the same node,
-/// and of the bounds among it and the elements around it.
+/// and of the innermost element of HTML and the bounds among it and the elements around it.
 #[derive(Clone, Copy)]
 struct Around {
     name: usize,
     node: usize,
+    html: usize,
     bounds: Bounds,
 }
 
-/// The place of the innermost element of each name of HTML.
+/// The place of the innermost element of each name.
 #[derive(Drop)]
 struct NamePlaces {
     tags: [usize; TAGS],
-    /// For the names that no rule mentions.
+    /// For the names of HTML that no rule mentions.
     others: HashMap<String, usize>,
+    foreign: ForeignPlaces,
 }
 
 /// Where the open elements are.
@@ -83,17 +88,6 @@ impl Bounds {
             Scope::Template => self.template,
             Scope::Special => self.special,
             Scope::Items => self.items,
-        }
-    }
-
-    /// The bound of a scope with one more element.
-    fn of_more(self, scope: Scope, name: &ElementName, place: usize) -> usize
-        ensures { result ≡ cond (bounds scope (element_name_of name.now)) place (places.bound_of self scope) }
-    {
-        if scope.is_bound(name) {
-            place
-        } else {
-            self.of(scope)
         }
     }
 
@@ -149,34 +143,52 @@ impl Bounds {
         }
     }
 
+    /// The bounds with one more element of foreign content, which may be one of those that bound most scopes.
+    fn with_foreign(self, bounds_most: bool, place: usize) -> Bounds
+        ensures { (scope : Scope) → places.bound_of result scope
+            ≡ cond (is_select scope || (has_foreign_bounds scope && bounds_most)) place (places.bound_of self scope) }
+    {
+        if bounds_most {
+            return Bounds {
+                general: place,
+                list_item: place,
+                button: place,
+                select: place,
+                special: place,
+                items: place,
+                ..self
+            };
+        }
+        Bounds {
+            select: place,
+            ..self
+        }
+    }
+
     /// The bounds with one more element.
     fn with(self, name: &ElementName, place: usize) -> Bounds
         ensures { (scope : Scope) → places.bound_of result scope
             ≡ cond (bounds scope (element_name_of name.now)) place (places.bound_of self scope) }
     {
-        if let ElementName::Html(HtmlName::Known(tag)) = name {
-            return self.with_tag(*tag, place);
-        }
-        Bounds {
-            general: self.of_more(Scope::Default, name, place),
-            list_item: self.of_more(Scope::ListItem, name, place),
-            button: self.of_more(Scope::Button, name, place),
-            table: self.of_more(Scope::Table, name, place),
-            select: self.of_more(Scope::Select, name, place),
-            template: self.of_more(Scope::Template, name, place),
-            special: self.of_more(Scope::Special, name, place),
-            items: self.of_more(Scope::Items, name, place),
+        match name {
+            ElementName::Html(HtmlName::Known(tag)) => self.with_tag(*tag, place),
+            ElementName::Html(HtmlName::Other(_)) => self.with_foreign(false, place),
+            ElementName::Svg(text) => self.with_foreign(is_svg_point(text.as_str()), place),
+            ElementName::Math(text) => self.with_foreign(is_math_bound(text.as_str()), place),
         }
     }
 }
 
 impl NamePlaces {
     fn new(alloc: Global) -> NamePlaces
-        ensures { (name : NameValue) → places.name_place result name ≡ 0 }
+        ensures places { (name : NameValue) → places.name_place result name ≡ 0 }
+        ensures spellings { (s : List ℕ) → spelling_place result.foreign s ≡ 0 }
+        ensures numbered { AreNumbered result.foreign }
     {
         NamePlaces {
             tags: [0; TAGS],
             others: HashMap::new(alloc),
+            foreign: ForeignPlaces::new(alloc),
         }
     }
 
@@ -201,44 +213,48 @@ impl NamePlaces {
         }
     }
 
-    fn place(&self, name: &ElementName) -> usize
-        ensures { result ≡ places.place_of_name self.now (element_name_of name.now) }
-    {
-        match name {
-            ElementName::Html(name) => self.name_place(name),
-            _ => 0,
-        }
-    }
-
-    fn put_tag(&mut self, tag: TagName, place: usize)
+    fn replace_tag(&mut self, tag: TagName, place: usize) -> usize
+        ensures before { result ≡ places.name_place self.old (known tag) }
         ensures places { (m : NameValue) → places.name_place self.new m
             ≡ cond (same_element_name (html (known tag)) (html m)) place (places.name_place self.old m) }
         ensures room { (m : ElementNameValue) → places.has_room self.new m ≡ places.has_room self.old m }
+        ensures foreign { self.new.foreign ≡ self.old.foreign }
     {
-        set_place(&mut self.tags, tag.number(), place);
+        replace_place(&mut self.tags, tag.number(), place)
     }
 
-    fn put_other(&mut self, text: &str, place: usize)
+    fn replace_other(&mut self, text: &str, place: usize) -> usize
         requires { places.has_room self.old (html (other text.now)) ≡ true }
+        ensures before { result ≡ places.name_place self.old (other text.now) }
         ensures places { (m : NameValue) → places.name_place self.new m
             ≡ cond (same_element_name (html (other text.now)) (html m)) place (places.name_place self.old m) }
         ensures room { (m : ElementNameValue) → places.has_room self.new m ≡ places.has_room self.old m }
+        ensures foreign { self.new.foreign ≡ self.old.foreign }
     {
-        if let Some(held) = self.others.get_mut(text) {
-            *held = place;
+        match self.others.get_mut(text) {
+            Some(held) => mem::replace(held, place),
+            None => 0,
         }
     }
 
-    fn put(&mut self, name: &ElementName, place: usize)
+    /// Writes the place of a name. Gives the one before.
+    fn replace(&mut self, name: &ElementName, place: usize) -> usize
         requires { places.has_room self.old (element_name_of name.now) ≡ true }
+        ensures before { AreNumbered self.old.foreign
+            → result ≡ places.place_of_name self.old (element_name_of name.now) }
         ensures places { (m : NameValue) → places.name_place self.new m
             ≡ cond (same_element_name (element_name_of name.now) (html m)) place (places.name_place self.old m) }
+        ensures spellings { AreNumbered self.old.foreign → (s : List ℕ) → spelling_place self.new.foreign s
+            ≡ cond (is_spelled_so s (element_name_of name.now)) place (spelling_place self.old.foreign s) }
+        ensures numbered { AreNumbered self.old.foreign → AreNumbered self.new.foreign }
         ensures room { (m : ElementNameValue) → places.has_room self.new m ≡ places.has_room self.old m }
     {
         match name {
-            ElementName::Html(HtmlName::Known(tag)) => self.put_tag(*tag, place),
-            ElementName::Html(HtmlName::Other(text)) => self.put_other(text.as_str(), place),
-            _ => {}
+            ElementName::Html(HtmlName::Known(tag)) => self.replace_tag(*tag, place),
+            ElementName::Html(HtmlName::Other(text)) => self.replace_other(text.as_str(), place),
+            ElementName::Svg(text) | ElementName::Math(text) => self
+                .foreign
+                .replace(text.as_str(), place),
         }
     }
 
@@ -254,6 +270,7 @@ impl NamePlaces {
         ensures kept { (m : ElementNameValue) → places.has_room self.old m ≡ true
             → places.has_room self.new m ≡ true }
         ensures room { OnOk result (places.has_room self.new (html (other (string_bytes text))) ≡ true) }
+        ensures foreign { self.new.foreign ≡ self.old.foreign }
     {
         self.others.insert(text, 0)?;
         Ok(())
@@ -264,6 +281,7 @@ impl NamePlaces {
         ensures kept { (m : ElementNameValue) → places.has_room self.old m ≡ true
             → places.has_room self.new m ≡ true }
         ensures room { OnOk result (places.has_room self.new (html (other (string_bytes text.now))) ≡ true) }
+        ensures foreign { self.new.foreign ≡ self.old.foreign }
     {
         if self.has_room(text.as_str()) {
             return Ok(());
@@ -278,10 +296,14 @@ impl NamePlaces {
         ensures kept { (m : ElementNameValue) → places.has_room self.old m ≡ true
             → places.has_room self.new m ≡ true }
         ensures room { OnOk result (places.has_room self.new (element_name_of name.now) ≡ true) }
+        ensures spellings { AreNumbered self.old.foreign → (s : List ℕ) → spelling_place self.new.foreign s
+            ≡ spelling_place self.old.foreign s }
+        ensures numbered { AreNumbered self.old.foreign → AreNumbered self.new.foreign }
     {
         match name {
+            ElementName::Html(HtmlName::Known(_)) => Ok(()),
             ElementName::Html(HtmlName::Other(text)) => self.make_room_for(text),
-            _ => Ok(()),
+            ElementName::Svg(text) | ElementName::Math(text) => self.foreign.make_room(text),
         }
     }
 }
@@ -293,7 +315,7 @@ pub(crate) fn is_from(bound: usize, place: usize) -> bool
     0 < place && bound <= place
 }
 
-fn place_at(held: &[usize], number: usize) -> usize
+pub(crate) fn place_at(held: &[usize], number: usize) -> usize
     ensures { result ≡ get_or held.now number 0 }
 {
     match held.get(number) {
@@ -324,18 +346,21 @@ fn make_room_around(around: &mut Vec<Around>, depth: usize) -> Result<(), AllocE
         around.push(Around {
             name: 0,
             node: 0,
+            html: 0,
             bounds: NO_BOUNDS,
         })?;
     }
     Ok(())
 }
 
-fn set_place(held: &mut [usize], number: usize, place: usize)
+/// Writes a place. Gives the one before.
+pub(crate) fn replace_place(held: &mut [usize], number: usize, place: usize) -> usize
     requires { number < length held.old }
+    ensures before { result ≡ get_or held.old number 0 }
     ensures places { (n : ℕ) → get_or held.new n 0 ≡ (if number == n then place else get_or held.old n 0) }
     ensures len { length held.new ≡ length held.old }
 {
-    held[number] = place;
+    mem::replace(&mut held[number], place)
 }
 
 impl Places {
@@ -377,6 +402,30 @@ impl Places {
         self.around[depth - 1].bounds
     }
 
+    /// The place of the innermost element of HTML among this many outermost elements.
+    pub(crate) fn html_place(&self, depth: usize) -> usize
+        requires { depth ≤ vec_len self.now.around }
+        ensures { (es : List OpenValue) → length es ≡ depth → places.IsLinked self.now.around.items es
+            → result ≡ places.innermost is_html es }
+    {
+        if depth == 0 {
+            return 0;
+        }
+        self.around[depth - 1].html
+    }
+
+    /// The same with one more element.
+    fn html_place_with(&self, depth: usize, name: &ElementName, place: usize) -> usize
+        requires { depth ≤ vec_len self.now.around }
+        ensures { (es : List OpenValue) → length es ≡ depth → places.IsLinked self.now.around.items es
+            → result ≡ cond (is_html_name (element_name_of name.now)) place (places.innermost is_html es) }
+    {
+        match name {
+            ElementName::Html(_) => place,
+            _ => self.html_place(depth),
+        }
+    }
+
     /// An element is opened inside this many.
     pub(crate) fn enter(&mut self, depth: usize, element: &OpenElement)
         requires room { places.HasRoom self.old (open_of element.now) }
@@ -388,12 +437,11 @@ impl Places {
     {
         let place = depth + 1;
         self.around[depth] = Around {
-            name: self.names.place(&element.name),
-            node: place_at(&self.nodes, element.node),
+            name: self.names.replace(&element.name, place),
+            node: replace_place(&mut self.nodes, element.node, place),
+            html: self.html_place_with(depth, &element.name, place),
             bounds: self.bounds(depth).with(&element.name, place),
         };
-        self.names.put(&element.name, place);
-        set_place(&mut self.nodes, element.node, place);
     }
 
     /// The innermost element, which is inside this many, is closed.
@@ -406,8 +454,8 @@ impl Places {
         ensures len { vec_len self.new.around ≡ vec_len self.old.around }
     {
         let around = self.around[depth];
-        self.names.put(&element.name, around.name);
-        set_place(&mut self.nodes, element.node, around.node);
+        self.names.replace(&element.name, around.name);
+        replace_place(&mut self.nodes, element.node, around.node);
     }
 
     /// The place of the innermost element of a node.
@@ -435,6 +483,14 @@ impl Places {
         self.names.name_place(name)
     }
 
+    /// The place of the innermost foreign element that is spelled so in any case, where that is known.
+    pub(crate) fn find_foreign(&self, text: &str) -> Option<usize>
+        ensures { (stack : List OpenValue) → places.IsPlaced self.now stack
+            → IfSome result (λ place. place ≡ places.innermost (is_spelled text.now) stack) }
+    {
+        self.names.foreign.find(text)
+    }
+
     fn tag_is_from(&self, tag: TagName, bound: usize) -> bool
         ensures { result ≡ places.is_from bound (places.name_place self.now.names (known tag)) }
     {
@@ -451,6 +507,18 @@ impl Places {
             }
         }
         false
+    }
+
+    /// The place of the innermost element that has one of these names.
+    pub(crate) fn place_of_any(&self, tags: &[TagName]) -> usize
+        ensures { (stack : List OpenValue) → places.IsPlaced self.now stack
+            → result ≡ places.innermost (places.has_one tags.now) stack }
+    {
+        let mut place = 0;
+        for tag in tags {
+            place = self.names.tag_place(*tag).max(place);
+        }
+        place
     }
 
     /// Whether one of these is no further out than this place.

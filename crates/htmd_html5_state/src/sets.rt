@@ -417,7 +417,8 @@ pub(crate) fn is_svg_point(text: &str) -> bool
     is_among(&["foreignObject", "desc", "title"], text)
 }
 
-fn is_math_bound(text: &str) -> bool
+/// Whether an element of MathML with this name bounds most scopes.
+pub(crate) fn is_math_bound(text: &str) -> bool
     ensures { result ≡ spec.is_math_bound text.now }
 {
     is_math_text(text) || text == "annotation-xml"

@@ -15,21 +15,28 @@ pub returns-clause-placed : goal.returns-clause-placed
 returns-clause-placed c = λ es len at.
     let p : Places = c.args.self.now in
     let e : OpenValue = open_of c.args.element.now in
-    let a : Around = record { name = c.place.result; node = c.place_at.result; bounds = c.with.result } in
+    let a : Around = record {
+      name = c.replace.result;
+      node = c.replace_place.result;
+      html = c.html_place_with.result;
+      bounds = c.with.result;
+    } in
     let q : Places = record {
-      names = c.put.new.self;
-      nodes = with_items p.nodes c.set_place.new.held;
+      names = c.replace.new.self;
+      nodes = with_items p.nodes c.replace_place.new.held;
       around = with_item p.around c.args.depth a;
     } in
-    placed-enter p q e es (kept-by p q c.put.ensures.room refl) at c.requires.room
+    placed-enter p q e es (kept-by p q c.replace.ensures.room refl) at c.requires.room
     (c.args.depth + 1) (omega (arith, len)) a
-    (around-is p e es at (c.args.depth + 1) (omega (arith, len)) a c.place.ensures
-    (c.place_at.ensures ∙ ap (λ (xs : List ℕ). get_or xs c.args.element.now.node 0) c.deref.ensures.value)
+    (around-is p e es at (c.args.depth + 1) (omega (arith, len)) a (c.replace.ensures.before at.numbered)
+    (c.replace_place.ensures.before
+    ∙ ap (λ (xs : List ℕ). get_or xs c.args.element.now.node 0) c.deref_mut.ensures.value)
+    (c.html_place_with.ensures es len at.linked)
     (λ scope. c.with.ensures scope
     ∙ ap (λ (x : ℕ). cond (bounds scope e.name) (c.args.depth + 1) x) (c.bounds.ensures es len at.linked scope)))
-    c.put.ensures.places
+    c.replace.ensures.places (c.replace.ensures.spellings at.numbered) (c.replace.ensures.numbered at.numbered)
     (λ n. ap (λ (xs : List ℕ). get_or xs n 0)
-    (with_items_is p.nodes c.set_place.new.held (c.set_place.ensures.len ∙ c.deref_mut.ensures.len))
-    ∙ (c.set_place.ensures.places n
+    (with_items_is p.nodes c.replace_place.new.held (c.replace_place.ensures.len ∙ c.deref_mut.ensures.len))
+    ∙ (c.replace_place.ensures.places n
     ∙ ap (λ (xs : List ℕ). cond (e.node == n) (c.args.depth + 1) (get_or xs n 0)) c.deref_mut.ensures.value))
     (ap (λ (k : ℕ). set p.around.items k a) (sym len)) (omega (arith, len, c.requires.within)) refl

@@ -16,15 +16,15 @@ returns-clause-placed c = λ es len at.
     let e : OpenValue = open_of c.args.element.now in
     let a : Around = c.index-around.result.now in
     let q : Places = record {
-      names = c.put.new.self;
-      nodes = with_items p.nodes c.set_place.new.held;
+      names = c.replace.new.self;
+      nodes = with_items p.nodes c.replace_place.new.held;
       around = p.around;
     } in
-    placed-leave p q e es (kept-by p q c.put.ensures.room refl) at a
+    placed-leave p q e es (kept-by p q c.replace.ensures.room refl) at a
     (c.index-around.ensures ∙ ap (λ (k : ℕ). get_or p.around.items k a) (sym len))
-    c.put.ensures.places
+    c.replace.ensures.places (c.replace.ensures.spellings at.numbered) (c.replace.ensures.numbered at.numbered)
     (λ n. ap (λ (xs : List ℕ). get_or xs n 0)
-    (with_items_is p.nodes c.set_place.new.held (c.set_place.ensures.len ∙ c.deref_mut.ensures.len))
-    ∙ (c.set_place.ensures.places n
+    (with_items_is p.nodes c.replace_place.new.held (c.replace_place.ensures.len ∙ c.deref_mut.ensures.len))
+    ∙ (c.replace_place.ensures.places n
     ∙ ap (λ (xs : List ℕ). cond (e.node == n) a.node (get_or xs n 0)) c.deref_mut.ensures.value))
     refl refl

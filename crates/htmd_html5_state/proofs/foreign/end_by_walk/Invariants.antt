@@ -3,7 +3,7 @@ use Rattle.std.proofs.Common.{◌≡◌, List, ◌++◌, length}
 use Rattle.htmd_html5_state.specs.Foreign.{foreign_end}
 use Rattle.htmd_html5_state.specs.OpenViews.{stack_of}
 use Rattle.htmd_html5_state.specs.declared.open_elements.OpenElement.{OpenElement}
-use Rattle.htmd_html5_state.proofs.foreign.foreign_end.Given as goal
+use Rattle.htmd_html5_state.proofs.foreign.end_by_walk.Given as goal
 
 abbrev pub invariant-loop-outer : goal.invariant-loop-outer
 invariant-loop-outer l =
