@@ -108,6 +108,7 @@ pub mod StrictEnds
 pub mod StrictThrough
 pub mod StrictPlainTexts
 pub mod StrictOnlyText
+pub mod StrictHeld
 pub mod StrictBuilt
 pub mod StrictPages
 pub mod StrictImplied

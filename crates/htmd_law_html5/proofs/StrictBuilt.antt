@@ -1,433 +1,86 @@
 -- The tokens of plain trees build the nodes of these trees below the current node.
 use Rattle.std.proofs.Common.{◌≡◌, ℕ, ◌<◌, Bool, true, false, not, ◌||◌, List, [], ◌∷◌, ◌++◌, length, Option, Some}
-use Rattle.std.proofs.Common.{None, refl, sym, ap, ◌∙◌, arith, inl, inr, subst, length-append, codes}
-use Rattle.std.specs.List.{list_all}
+use Rattle.std.proofs.Common.{None, refl, sym, ap, ◌∙◌, arith, inl, inr, subst, codes}
+use Rattle.std.specs.Prelude.{◌⊎◌, ◌&&◌, if◌then◌else◌}
 use Rattle.std.proofs.lemmas.Bool.{and_parts, not-true, true≢false}
 use Rattle.std.proofs.lemmas.List.{append-nil}
-use Rattle.htmd_lexical.specs.WhiteSpace.{is_ascii_white_space}
 use Rattle.htmd_lexical.proofs.Cases.{test}
 use Rattle.htmd_lexical.specs.AttributePairs.{AttributePair}
 use Rattle.htmd_values.specs.ValueTrees.{ValueTree, ValueForest, none, more, text}
 use Rattle.htmd_values.specs.ValueTrees.{comment, element}
 use Rattle.htmd_lexical.specs.CharacterClasses.{is_among}
-use Rattle.htmd_grammar.specs.Grammar.{Apart}
-use Rattle.htmd_grammar.specs.Nesting.{parent_name, holds_rows, holds_parts, fits_table}
+use Rattle.htmd_grammar.specs.Grammar.{Apart, begins_with_row}
+use Rattle.htmd_grammar.specs.Nesting.{holds_rows, holds_parts, fits_table, is_table, is_tbody}
 use Rattle.htmd_values.specs.Serialisation.{is_void}
 use Rattle.htmd_html5_tokens.specs.Tokens.{TokenValue, start_tag, end_tag}
 use Rattle.htmd_lexical.specs.declared.content_model.ContentModel.TheVariants.{Normal}
-use Rattle.htmd_html5.specs.Texts.{is_table_mode}
 use Rattle.htmd_html5_state.specs.Formatting.{after_marker}
 use Rattle.htmd_html5_state.specs.Resetting.{mode_of}
-use Rattle.htmd_html5_state.specs.Sets.{is_of}
 use Rattle.htmd_html5_state.specs.declared.modes.InsertionMode.{InsertionMode}
 use Rattle.htmd_html5_state.specs.declared.modes.InsertionMode.TheVariants.{InTable, InTableBody, InRow, InCell}
-use Rattle.htmd_html5_state.specs.declared.sets.NameSet.TheVariants.{Fostering}
+use Rattle.htmd_html5_state.specs.declared.modes.InsertionMode.TheVariants.{InCaption}
 use Rattle.htmd_html5_state.specs.Names.{html, name_of_text}
-use Rattle.htmd_html5_state.specs.Nodes.{NodeValue, kind_at, append_children, add, add_text, last_in}
+use Rattle.htmd_html5_state.specs.Nodes.{NodeValue, append_children}
 use Rattle.htmd_html5_state.specs.OpenElements.{OpenValue}
-use Rattle.htmd_html5_state.specs.Insertion.{current, opened, place}
+use Rattle.htmd_html5_state.specs.Insertion.{current, opened}
 use Rattle.htmd_html5_state.specs.State.{StateValue}
-use Rattle.htmd_html5.specs.AtOnce.{is_without_null}
 use Rattle.htmd_html5.specs.Feeding.{feed}
-use Rattle.htmd_law_html5.specs.StrictTokens.{content_in, content_after, tag_named, SpellsTree, SpellsForest}
-use Rattle.htmd_law_html5.specs.StrictTokens.{after_feed}
+use Rattle.htmd_law_html5.specs.StrictTokens.{content_in, tag_named, SpellsTree, SpellsForest}
+use Rattle.htmd_law_html5.specs.StrictTokens.{SpellsTable, SpellsRows}
 use Rattle.htmd_law_html5.specs.StrictTokens.{content_tokens}
 use Rattle.htmd_law_html5.specs.StrictTrees.{is_plain_name, is_plain_element, is_plain_body, is_plain_tree, are_plain}
-use Rattle.htmd_law_html5.specs.StrictTrees.{text_names}
-use Rattle.htmd_law_html5.proofs.StrictNodes.{node, tree_nodes, append_length, added, last_text, text_added}
-use Rattle.htmd_law_html5.proofs.StrictNodes.{kind_after, kinds_kept, with_tree, with_forest, forest_joined, filled}
+use Rattle.htmd_law_html5.specs.StrictTrees.{text_names, are_plain_table, are_plain_rows}
+use Rattle.htmd_law_html5.proofs.StrictNodes.{node, last_text}
+use Rattle.htmd_law_html5.proofs.StrictNodes.{with_tree, with_forest, forest_joined, filled}
 use Rattle.htmd_law_html5.proofs.StrictNodes.{tree_last, is_text, begins_text, no_text_next, with_tree_longer}
 use Rattle.htmd_law_html5.proofs.StrictNodes.{append_none}
 use Rattle.htmd_law_html5.proofs.StrictOpen.{Fewer, fewer_same, fewer_trans, fewer_cleared, entries, Stands}
-use Rattle.htmd_law_html5.proofs.StrictOpen.{stands_longer}
-use Rattle.htmd_law_html5.proofs.StrictOpen.{the_document, stands_below}
-use Rattle.htmd_law_html5.proofs.StrictNames.{plain_case, is_formatting_case, void_case}
-use Rattle.htmd_law_html5.proofs.StrictSets.{plain_content, void_keeps, keeps_name, text_keeps}
-use Rattle.htmd_law_html5.proofs.StrictOnlyText.{at, at_end, element_added, starts_empty, IsOneText, Put, none_put}
-use Rattle.htmd_law_html5.proofs.StrictOnlyText.{text_put}
-use Rattle.htmd_law_html5.proofs.StrictThrough.{Through, nothing, followed, from_state, one_fed, skip_run}
+use Rattle.htmd_law_html5.proofs.StrictOpen.{stands_html}
+use Rattle.htmd_law_html5.proofs.StrictSets.{void_keeps, keeps_name, text_keeps}
+use Rattle.htmd_law_html5.proofs.StrictOnlyText.{at, element_added, starts_empty}
+use Rattle.htmd_law_html5.proofs.StrictThrough.{Through, nothing, followed, from_state, with_fed, one_fed, parts}
 use Rattle.htmd_grammar.proofs.NestingLemmas.{one_name, among_passes}
-use Rattle.htmd_law_html5.proofs.StrictRawTexts.{normal_content, void_content}
-use Rattle.htmd_law_html5.proofs.StrictRules.{InContext, Flows, Fits, within, comment_fed, text_fed, plain_start}
-use Rattle.htmd_law_html5.proofs.StrictRules.{formatting_start, void_fed, opened_with, pre_start}
-use Rattle.htmd_law_html5.proofs.StrictEnds.{plain_end, formatting_end, pre_end}
-use Rattle.htmd_law_html5.proofs.StrictModes.{IsFlow, ModeIn, in_table, in_section, in_row, in_flow, flow_fits}
+use Rattle.htmd_law_html5.proofs.StrictRules.{InContext, Flows, Fits, within}
+use Rattle.htmd_law_html5.proofs.StrictModes.{ModeIn, in_table, in_section, in_row, in_flow, flow_fits}
 use Rattle.htmd_law_html5.proofs.StrictModes.{table_fits, section_fits, row_fits, section_names, cell_names}
 use Rattle.htmd_law_html5.proofs.StrictModes.{table_part_names, part_tags, section_plain, plain_in_flow, table_alone}
-use Rattle.htmd_law_html5.proofs.StrictModes.{flows, flows_hold, plain_flows, reset_past}
-use Rattle.htmd_law_html5.proofs.StrictTables.{white_fed, opened_as, table_start, section_start, row_start, cell_start}
+use Rattle.htmd_law_html5.proofs.StrictTables.{opened_as, table_start, section_start, row_start, cell_start}
 use Rattle.htmd_law_html5.proofs.StrictTables.{table_end, section_end, row_end, cell_end, cell_resets}
-use Rattle.htmd_html5_tokens.specs.Tokens as tokens
-use Rattle.htmd_html5_state.specs.Nodes as documents
-
--- ---- trees that fit
-
-abbrev mutual
-  pub FitsTree : List (List ℕ) → ValueTree → Type 0
-  FitsTree c (text u) =
-      (is_without_null u ≡ true)
-      × (holds_parts (parent_name (c ++ the_document)) ≡ true → list_all is_ascii_white_space u ≡ true)
-  FitsTree c (element n attributes children) =
-      Fits c n × FitsForest (n ∷ c) children × (is_among text_names n ≡ true → IsOneText children)
-  FitsTree c _ = Unit {0}
-
-  -- no two texts are neighbours, and each element may stand in its context
-  pub FitsForest : List (List ℕ) → ValueForest → Type 0
-  FitsForest c none = Unit {0}
-  FitsForest c (more t ts) = Apart t ts × FitsTree c t × FitsForest c ts
+use Rattle.htmd_law_html5.proofs.StrictTables.{implied_body, implied_row}
+use Rattle.htmd_law_html5.proofs.StrictTables.{body_table_end, caption_start, caption_resets, caption_end}
+use Rattle.htmd_law_html5.proofs.StrictHeld.{FitsTree, FitsForest, Built, ElementBuilt, ForestBuilt, Rows}
+use Rattle.htmd_law_html5.proofs.StrictHeld.{TableBuilt, TreeBuilt, comment_built, entered, fresh, full_built}
+use Rattle.htmd_law_html5.proofs.StrictHeld.{held_built, moded, pre_built, text_alone_built, text_built}
+use Rattle.htmd_law_html5.proofs.StrictHeld.{void_built}
 
 module _ (z : Bool) where
-  -- what has been built from a state on
-  pub record Built (c : List (List ℕ)) (xs : List TokenValue) (nodes : List NodeValue) (s new : StateValue) : Type 0
-    where
-      pub through : Through z s xs new
-      pub nodes_are : new.nodes ≡ nodes
-      pub in_context : InContext c new
-      pub stack : new.stack ≡ s.stack
-      pub mode : new.mode ≡ s.mode
-      pub fewer : Fewer new.formatting s.formatting
-
-  abbrev TreeBuilt : ValueTree → Type 0
-  TreeBuilt t = (p : List ℕ) (c : List (List ℕ)) (xs : List TokenValue) (s : StateValue) → SpellsTree t xs
-      → is_plain_tree t ≡ true → FitsTree (p ∷ c) t → InContext (p ∷ c) s
-      → (is_text t ≡ true → last_text s.nodes (at s) ≡ None)
-      → (new : StateValue) × Built (p ∷ c) xs (with_tree (at s) t s.nodes) s new
-
-  abbrev ForestBuilt : ValueForest → Type 0
-  ForestBuilt ts = (p : List ℕ) (c : List (List ℕ)) (xs : List TokenValue) (s : StateValue) → SpellsForest ts xs
-      → are_plain ts ≡ true → FitsForest (p ∷ c) ts → InContext (p ∷ c) s
-      → (begins_text ts ≡ true → last_text s.nodes (at s) ≡ None)
-      → (new : StateValue) × Built (p ∷ c) xs (with_forest (at s) ts s.nodes) s new
-
-  -- and what the tokens of an element with content build
-  abbrev ElementBuilt : List ℕ → List (List ℕ) → List ℕ → List AttributePair → Bool → List TokenValue
-      → ValueForest → StateValue → Type 0
-  ElementBuilt p c n attributes slash content children s =
-      (new : StateValue) × Built (p ∷ c)
-      (start_tag (tag_named n attributes slash) ∷ (content ++ (end_tag (tag_named n [] false) ∷ [])))
-      (with_tree (at s) (element n attributes children) s.nodes) s new
-
-  -- ---- a tree that opens nothing
-
-  -- with these nodes in place of those before
-  grown : (p : List ℕ) (c : List (List ℕ)) (t : ValueTree) (s : StateValue) (nodes : List NodeValue) (ok : Bool)
-      → InContext (p ∷ c) s → nodes ≡ with_tree (at s) t s.nodes
-      → InContext (p ∷ c) (record s { nodes = nodes; frameset_ok = ok })
-  grown p c t s nodes ok h e = record {
-    mode = h.mode;
-    resets = h.resets;
-    content = h.content;
-    no_skip = h.no_skip;
-    no_foster = h.no_foster;
-    no_template = h.no_template;
-    listed = h.listed;
-    stands = subst (λ ns. Stands ns (p ∷ c) s.stack) (sym e)
-        (stands_longer s.nodes (with_tree (at s) t s.nodes) (p ∷ c) s.stack (with_tree_longer (at s) t s.nodes)
-        (λ n l. kinds_kept (at s) n (length s.nodes ∷ []) s.nodes (tree_nodes (at s) (length s.nodes) t) l)
-        h.stands);
-  }
-
-  put_built : (p : List ℕ) (c : List (List ℕ)) (t : ValueTree) (s : StateValue) (xs : List TokenValue)
-      → InContext (p ∷ c) s → Put z s t xs
-      → (new : StateValue) × Built (p ∷ c) xs (with_tree (at s) t s.nodes) s new
-  put_built p c t s xs h r = (
-    record s { nodes = r.nodes; frameset_ok = r.ok },
-    record {
-      through = r.through;
-      nodes_are = r.nodes_are;
-      in_context = grown p c t s r.nodes r.ok h r.nodes_are;
-      stack = refl;
-      mode = refl;
-      fewer = fewer_same s.formatting;
-    },
-  )
-
-  leaf_built : (p : List ℕ) (c : List (List ℕ)) (t : ValueTree) (x : TokenValue) (s : StateValue)
-      (nodes : List NodeValue) (ok : Bool) → InContext (p ∷ c) s → content_after z Normal x ≡ Normal
-      → feed x s ≡ record s { nodes = nodes; frameset_ok = ok } → nodes ≡ with_tree (at s) t s.nodes
-      → (new : StateValue) × Built (p ∷ c) (x ∷ []) (with_tree (at s) t s.nodes) s new
-  leaf_built p c t x s nodes ok h k f e =
-      put_built p c t s (x ∷ []) h (record {
-        nodes = nodes;
-        ok = ok;
-        nodes_are = e;
-        through = one_fed z p c x s _ [] _ h (h.content ∙ sym k) f nothing;
-      })
-
-  text_built : (u : List ℕ) → TreeBuilt (text u)
-  text_built u p c xs s k e f h st = rw k (by_case h.mode)
-    where
-      nodes : add_text u (place s) s.nodes ≡ with_tree (at s) (text u) s.nodes
-      nodes =
-          ap (λ there. add_text u there s.nodes) (at_end p c s h)
-          ∙ text_added u (at s) s.nodes (within p c s h) (st refl)
-
-      in_body : Flows p s → (new : StateValue)
-          × Built (p ∷ c) (tokens.text u ∷ []) (with_tree (at s) (text u) s.nodes)
-          s new
-      in_body w =
-          let fed = text_fed p c s h w u f.0 in
-          test (list_all is_ascii_white_space u)
-          (λ t. leaf_built p c (text u) (tokens.text u) s _ s.frameset_ok h refl (fed ∙ rw t refl) nodes)
-          (λ t. leaf_built p c (text u) (tokens.text u) s _ false h refl (fed ∙ rw t refl) nodes)
-
-      in_parts : is_table_mode s.mode ≡ true → is_of Fostering (html (name_of_text p)) ≡ true
-          → holds_parts p ≡ true
-          → (new : StateValue) × Built (p ∷ c) (tokens.text u ∷ []) (with_tree (at s) (text u) s.nodes) s new
-      in_parts m b o =
-          leaf_built p c (text u) (tokens.text u) s _ s.frameset_ok h refl (white_fed p c s h m b u f.0 (f.1 o)) nodes
-
-      by_case : ModeIn p s.mode
-          → (new : StateValue) × Built (p ∷ c) (tokens.text u ∷ []) (with_tree (at s) (text u) s.nodes) s new
-      by_case (in_table q m) = in_parts (rw m refl) (rw q refl) (rw q refl)
-      by_case (in_section q m) = in_parts (rw m refl)
-          (among_passes (λ n. is_of Fostering (html (name_of_text n))) section_names p q refl)
-          (among_passes holds_parts section_names p q refl)
-      by_case (in_row q m) = in_parts (rw m refl) (rw q refl) (rw q refl)
-      by_case (in_flow o w) = in_body (o, w)
-
-  comment_built : (u : List ℕ) → TreeBuilt (comment u)
-  comment_built u p c xs s k e f h st =
-      rw k (leaf_built p c (comment u) (tokens.comment u) s (add (documents.comment u) (last_in (at s)) s.nodes)
-      s.frameset_ok h refl (comment_fed p c s h u) (added (documents.comment u) (at s) s.nodes (within p c s h)))
-
-  void_built : (n : List ℕ) (attributes : List AttributePair) (slash : Bool) (p : List ℕ) (c : List (List ℕ))
-      (s : StateValue) → is_void n ≡ true → not (is_among (codes "col" ∷ []) n) ≡ true → Fits (p ∷ c) n
-      → InContext (p ∷ c) s → Flows p s
-      → (new : StateValue) × Built (p ∷ c) (start_tag (tag_named n attributes slash) ∷ [])
-      (with_tree (at s) (element n attributes none) s.nodes) s new
-  void_built n attributes slash p c s v e f h w =
-      let fed = void_fed p c s h w n (void_case n v e f.inside) f attributes slash in
-      leaf_built p c (element n attributes none) (start_tag (tag_named n attributes slash)) s
-      (add (documents.element (html (name_of_text n)) attributes) (place s) s.nodes) fed.0 h
-      (normal_content z n (void_content z n v) f.inside) fed.1 (element_added p c n attributes s h)
-
-  -- ---- an element with content
-
-  abbrev fresh : List ℕ → StateValue → OpenValue
-  fresh n s = opened (length s.nodes) (html (name_of_text n))
-
-  -- the state in which the content comes
-  entered : (p n : List ℕ) (c : List (List ℕ)) (attributes : List AttributePair) (s : StateValue)
-      (list : List (Option ℕ)) (ok : Bool) (m : InsertionMode) (h : InContext (p ∷ c) s) → ModeIn n m
-      → (holds_parts n ≡ false → (y : StateValue) → mode_of (fresh n s ∷ s.stack) y ≡ m)
-      → Fewer list (Some (length s.nodes) ∷ None ∷ s.formatting)
-      → InContext (n ∷ (p ∷ c)) (opened_as p c s h n attributes list ok m)
-  entered p n c attributes s list ok m h i r f =
-      let kind = documents.element (html (name_of_text n)) attributes in
-      let front : List NodeValue = append_children (at s) (length s.nodes ∷ []) s.nodes in
-      let new : NodeValue = node kind (at s) [] in
-      let added_ = element_added p c n attributes s h in
-      let long = append_length (at s) (length s.nodes ∷ []) s.nodes in
-      let l : length s.nodes < length (front ++ new ∷ []) = omega (arith, long, length-append front (new ∷ [])) in
-      let g = grown p c (element n attributes none) s (add kind (place s) s.nodes) ok h added_ in
-      record {
-        mode = i;
-        resets = r;
-        content = h.content;
-        no_skip = h.no_skip;
-        no_foster = h.no_foster;
-        no_template = h.no_template;
-        listed = fewer_trans list (Some (length s.nodes) ∷ None ∷ s.formatting) (entries (fresh n s ∷ s.stack)) f
-            (inr (None ∷ s.formatting, refl, inr (s.formatting, refl, h.listed)));
-        stands = (
-          refl,
-          (
-            attributes,
-            ap (λ ns. kind_at ns (length s.nodes)) added_ ∙ kind_after front new [] (length s.nodes) long,
-          ),
-          subst (λ ns. length s.nodes < length ns) (sym added_) l,
-          stands_below s.nodes (p ∷ c) s.stack h.stands,
-          g.stands,
-        );
-      }
-
-  -- the content between a start tag and an end tag that do this, after which no more is listed than before
-  held_built : (p n : List ℕ) (c : List (List ℕ)) (attributes : List AttributePair) (children : ValueForest)
-      → ForestBuilt children → (slash : Bool) (whole content : List TokenValue) (s : StateValue)
-      (list : List (Option ℕ)) (ok : Bool) (m : InsertionMode) (h : InContext (p ∷ c) s)
-      → SpellsForest children content → are_plain children ≡ true → FitsForest (n ∷ (p ∷ c)) children
-      → InContext (n ∷ (p ∷ c)) (opened_as p c s h n attributes list ok m)
-      → (feed (start_tag (tag_named n attributes slash)) s).content
-      ≡ content_after z Normal (start_tag (tag_named n attributes slash))
-      → ((held : StateValue) → held.stack ≡ fresh n s ∷ s.stack → held.mode ≡ m
-      → InContext (n ∷ (p ∷ c)) held → Fewer held.formatting list
-      → (left : List (Option ℕ)) × Fewer left s.formatting
-      × (feed (end_tag (tag_named n [] false)) held
-      ≡ record held { stack = s.stack; formatting = left; mode = s.mode }))
-      → ((new : StateValue) → Through z (opened_as p c s h n attributes list ok m)
-      (content ++ (end_tag (tag_named n [] false) ∷ [])) new
-      → Through z (feed (start_tag (tag_named n attributes slash)) s)
-      (whole ++ (end_tag (tag_named n [] false) ∷ [])) new)
-      → ElementBuilt p c n attributes slash whole children s
-  held_built p n c attributes children ih slash whole content s list ok m h k g ff i e ends run =
-      let first : StateValue = opened_as p c s h n attributes list ok m in
-      let r = ih n (p ∷ c) content first k g ff i (λ _. starts_empty p n c attributes s h) in
-      let b = r.1 in
-      let last = ends r.0 b.stack b.mode b.in_context b.fewer in
-      let new : StateValue = record (r.0) { stack = s.stack; formatting = last.0; mode = s.mode } in
-      let st = subst (λ stack. Stands (r.0).nodes (n ∷ (p ∷ c)) stack) b.stack b.in_context.stands in
-      let through : Through z first (content ++ (end_tag (tag_named n [] false) ∷ [])) new =
-      followed z b.through (one_fed z n (p ∷ c) (end_tag (tag_named n [] false)) r.0 new [] new b.in_context
-      b.in_context.content last.2 nothing) in (
-        new,
-        record {
-          through = one_fed z p c (start_tag (tag_named n attributes slash)) s _ _ new h e refl (run new through);
-          nodes_are = b.nodes_are ∙ ap (with_forest (length s.nodes) children) (element_added p c n attributes s h)
-              ∙ filled (at s) n attributes children s.nodes;
-          in_context = record {
-            mode = h.mode;
-            resets = h.resets;
-            content = b.in_context.content;
-            no_skip = b.in_context.no_skip;
-            no_foster = b.in_context.no_foster;
-            no_template = b.in_context.no_template;
-            listed = fewer_trans last.0 s.formatting (entries s.stack) last.1 h.listed;
-            stands = st.4;
-          };
-          stack = refl;
-          mode = refl;
-          fewer = last.1;
-        },
-      )
-
-  -- ---- an element whose content is read as the body is
-
-  flow_entered : (p n : List ℕ) (c : List (List ℕ)) (attributes : List AttributePair) (s : StateValue)
-      (list : List (Option ℕ)) (ok : Bool) (h : InContext (p ∷ c) s) → Flows p s → flows n ≡ true
-      → Fewer list (Some (length s.nodes) ∷ None ∷ s.formatting)
-      → InContext (n ∷ (p ∷ c)) (opened_with p c s h n attributes list ok)
-  flow_entered p n c attributes s list ok h w o f =
-      entered p n c attributes s list ok s.mode h (in_flow (flows_hold n o) w.1)
-      (λ e y. rw (reset_past n o s.stack y) (h.resets w.0 y)) f
-
-  -- a mode that is the same
-  moded : (held : StateValue) (stack : List OpenValue) (left : List (Option ℕ)) {i m : InsertionMode} → i ≡ m
-      → record held { stack = stack; formatting = left; mode = i }
-      ≡ record held { stack = stack; formatting = left; mode = m }
-  moded held stack left e =
-      ap (λ (i : InsertionMode). record held { stack = stack; formatting = left; mode = i }) e
-
-  flows_in : (p : List ℕ) (s held : StateValue) → Flows p s → held.mode ≡ s.mode → IsFlow held.mode
-  flows_in p s held w e = subst IsFlow (sym e) w.1
-
-  full_built : (n : List ℕ) (attributes : List AttributePair) (children : ValueForest) → ForestBuilt children
-      → (slash : Bool) (content : List TokenValue) (p : List ℕ) (c : List (List ℕ)) (s : StateValue)
-      → is_plain_name n ≡ true → are_plain children ≡ true → SpellsForest children content
-      → Fits (p ∷ c) n → FitsForest (n ∷ (p ∷ c)) children → InContext (p ∷ c) s → Flows p s
-      → ElementBuilt p c n attributes slash content children s
-  full_built n attributes children ih slash content p c s e g k f ff h w =
-      test (is_formatting_case (plain_case n e)) formatted unformatted
-    where
-      formatted : is_formatting_case (plain_case n e) ≡ true
-          → ElementBuilt p c n attributes slash content children s
-      formatted t =
-          let started = formatting_start p c s h w n (plain_case n e) f t attributes slash in
-          held_built p n c attributes children ih slash content content s (Some (length s.nodes) ∷ started.0)
-          s.frameset_ok s.mode h k g ff
-          (flow_entered p n c attributes s _ s.frameset_ok h w (plain_flows n e)
-          (inr (started.0, refl, inl started.1)))
-          (ap (λ (y : StateValue). y.content) started.2 ∙ h.content ∙ sym (plain_content z n e))
-          (λ held stack mode there fewer.
-          let st = subst (Stands held.nodes (n ∷ (p ∷ c))) stack there.stands in
-          let ends = formatting_end n (p ∷ c) held there (flows_in p s held w mode) n (plain_flows n e)
-          (plain_case n e)
-          t (length s.nodes) s.stack (st.1).0 started.0 stack (st.1).1 st.3 fewer
-          (fewer_trans started.0 s.formatting (entries s.stack) started.1 h.listed) in (
-            ends.0,
-            fewer_trans ends.0 started.0 s.formatting ends.1 started.1,
-            ends.2 ∙ moded held s.stack ends.0 mode,
-          ))
-          (λ new run. from_state z started.2 run)
-
-      unformatted : is_formatting_case (plain_case n e) ≡ false
-          → ElementBuilt p c n attributes slash content children s
-      unformatted t =
-          let started = plain_start p c s h w n (plain_case n e) f t attributes slash in
-          held_built p n c attributes children ih slash content content s s.formatting started.0 s.mode h k g ff
-          (flow_entered p n c attributes s _ started.0 h w (plain_flows n e) (inl (inl (fewer_same s.formatting))))
-          (ap (λ (y : StateValue). y.content) started.1 ∙ h.content ∙ sym (plain_content z n e))
-          (λ held stack mode there fewer.
-          let ends = plain_end n (p ∷ c) held there (flows_in p s held w mode) n (plain_flows n e) (plain_case n e) t
-          (length s.nodes) s.stack stack in
-          (held.formatting, fewer, ends ∙ moded held s.stack held.formatting mode))
-          (λ new run. from_state z started.1 run)
-
-  pre_built : (attributes : List AttributePair) (children : ValueForest) → ForestBuilt children
-      → (slash : Bool) (content : List TokenValue) (p : List ℕ) (c : List (List ℕ)) (s : StateValue)
-      → are_plain children ≡ true → SpellsForest children (after_feed content)
-      → Fits (p ∷ c) (codes "pre") → FitsForest (codes "pre" ∷ (p ∷ c)) children → InContext (p ∷ c) s
-      → Flows p s → ElementBuilt p c (codes "pre") attributes slash content children s
-  pre_built attributes children ih slash content p c s g k f ff h w =
-      let n : List ℕ = codes "pre" in
-      let started = pre_start p c s h w f attributes slash in
-      let there =
-      flow_entered p n c attributes s s.formatting false h w refl (inl (inl (fewer_same s.formatting))) in
-      held_built p n c attributes children ih slash content (after_feed content) s s.formatting false s.mode h k g ff
-      there (ap (λ (y : StateValue). y.content) started ∙ h.content)
-      (λ held stack mode there fewer.
-      let ends = pre_end n (p ∷ c) held there (flows_in p s held w mode) (length s.nodes) s.stack stack in
-      (held.formatting, fewer, ends ∙ moded held s.stack held.formatting mode))
-      (λ new run. from_state z started (skip_run z n (p ∷ c) (opened_with p c s h n attributes s.formatting false)
-      there content (tag_named n [] false) new run))
-
-  -- an element that holds only text
-  text_alone_built : (n : List ℕ) (attributes : List AttributePair) (children : ValueForest) (slash : Bool)
-      (content : List TokenValue) (p : List ℕ) (c : List (List ℕ)) (s : StateValue)
-      → is_among text_names n ≡ true → SpellsForest children content → Fits (p ∷ c) n
-      → FitsForest (n ∷ (p ∷ c)) children → IsOneText children → InContext (p ∷ c) s → Flows p s
-      → ElementBuilt p c n attributes slash content children s
-  text_alone_built n attributes none slash content p c s e k f ff o h w =
-      rw k (put_built p c (element n attributes none) s _ h (none_put z p c s h w n e f attributes slash))
-  text_alone_built n attributes (more (text u) none) slash content p c s e k f ff o h w =
-      let q : content ≡ tokens.text u ∷ [] =
-      k.2 ∙ ap (λ (ys : List TokenValue). ys ++ k.1) k.3
-      ∙ ap (λ (ys : List TokenValue). tokens.text u ∷ ys) k.4 in
-      rw q (put_built p c (element n attributes (more (text u) none)) s _ h
-      (text_put z p c s h w n e f attributes slash u (ff.1).0))
-  text_alone_built n attributes _ slash content p c s e k f ff o h w = absurd o
-
   -- ---- tables and their parts
 
-  part_built : (n : List ℕ) (attributes : List AttributePair) (children : ValueForest) → ForestBuilt children
+  part_built : (n : List ℕ) (attributes : List AttributePair) (children : ValueForest) → ForestBuilt z children
       → (slash : Bool) (content : List TokenValue) (p : List ℕ) (c : List (List ℕ)) (s : StateValue)
       (list : List (Option ℕ)) (ok : Bool) (m : InsertionMode) → are_plain children ≡ true
       → SpellsForest children content → FitsForest (n ∷ (p ∷ c)) children → (h : InContext (p ∷ c) s)
       → content_in z n ≡ Normal → ModeIn n m
-      → (holds_parts n ≡ false → (y : StateValue) → mode_of (fresh n s ∷ s.stack) y ≡ m)
+      → (holds_parts n ≡ false → (y : StateValue) → mode_of (fresh z n s ∷ s.stack) y ≡ m)
       → Fewer list (Some (length s.nodes) ∷ None ∷ s.formatting)
       → feed (start_tag (tag_named n attributes slash)) s ≡ opened_as p c s h n attributes list ok m
-      → ((held : StateValue) → held.stack ≡ fresh n s ∷ s.stack → held.mode ≡ m
+      → ((held : StateValue) → held.stack ≡ fresh z n s ∷ s.stack → held.mode ≡ m
       → InContext (n ∷ (p ∷ c)) held
       → Fewer held.formatting list → (left : List (Option ℕ)) × Fewer left s.formatting
       × (feed (end_tag (tag_named n [] false)) held
       ≡ record held { stack = s.stack; formatting = left; mode = s.mode }))
-      → ElementBuilt p c n attributes slash content children s
+      → ElementBuilt z p c n attributes slash content children s
   part_built n attributes children ih slash content p c s list ok m g k ff h v i r f started ends =
-      held_built p n c attributes children ih slash content content s list ok m h k g ff
-      (entered p n c attributes s list ok m h i r f)
+      held_built z p n c attributes children ih slash content content s list ok m h k g ff
+      (entered z p n c attributes s list ok m h i r f)
       (ap (λ (y : StateValue). y.content) started ∙ h.content ∙ sym v) ends (λ new run. from_state z started run)
 
-  module _ (n : List ℕ) (attributes : List AttributePair) (children : ValueForest) (ih : ForestBuilt children)
+  module _ (n : List ℕ) (attributes : List AttributePair) (children : ValueForest) (ih : ForestBuilt z children)
       (slash : Bool) (content : List TokenValue) (p : List ℕ) (c : List (List ℕ)) (s : StateValue)
       (g : are_plain children ≡ true) (k : SpellsForest children content) (ff : FitsForest (n ∷ (p ∷ c)) children)
       (h : InContext (p ∷ c) s) where
-    table_built : n ≡ codes "table" → Fits (p ∷ c) n → Flows p s
-        → ElementBuilt p c n attributes slash content children s
-    table_built q f w =
-        part_built n attributes children ih slash content p c s s.formatting false InTable g k ff h (rw q refl)
-        (in_table q refl) (λ e. absurd (let u = rw q at e in cc)) (inl (inl (fewer_same s.formatting)))
-        (subst (λ m. Fits (p ∷ c) m → feed (start_tag (tag_named m attributes slash)) s
-        ≡ opened_as p c s h m attributes s.formatting false InTable) (sym q)
-        (λ f. table_start p c s h w f attributes slash) f)
-        (λ held stack mode there fewer. (
-          held.formatting,
-          fewer,
-          table_end n (p ∷ c) held there (length s.nodes) s.stack n q s.mode stack mode (h.resets w.0),
-        ))
-
     section_built : holds_rows n ≡ true → p ≡ codes "table" → s.mode ≡ InTable
-        → ElementBuilt p c n attributes slash content children s
+        → ElementBuilt z p c n attributes slash content children s
     section_built r q m =
         part_built n attributes children ih slash content p c s s.formatting s.frameset_ok InTableBody g k ff h
         ((part_tags n (among_passes (is_among table_part_names) section_names n r refl)).2 z) (in_section r refl)
@@ -437,11 +90,11 @@ module _ (z : Bool) where
           held.formatting,
           fewer,
           section_end n (p ∷ c) held there (length s.nodes) s.stack n r stack mode
-              ∙ moded held s.stack held.formatting (sym m),
+              ∙ moded z held s.stack held.formatting (sym m),
         ))
 
     row_built : n ≡ codes "tr" → holds_rows p ≡ true → s.mode ≡ InTableBody
-        → ElementBuilt p c n attributes slash content children s
+        → ElementBuilt z p c n attributes slash content children s
     row_built q r m =
         part_built n attributes children ih slash content p c s s.formatting s.frameset_ok InRow g k ff h (rw q refl)
         (in_row q refl) (λ e. absurd (let u = rw q at e in cc)) (inl (inl (fewer_same s.formatting)))
@@ -450,146 +103,579 @@ module _ (z : Bool) where
           held.formatting,
           fewer,
           row_end n (p ∷ c) held there (length s.nodes) s.stack n q stack mode
-              ∙ moded held s.stack held.formatting (sym m),
+              ∙ moded z held s.stack held.formatting (sym m),
         ))
 
     cell_built : is_among cell_names n ≡ true → p ≡ codes "tr" → s.mode ≡ InRow
-        → ElementBuilt p c n attributes slash content children s
+        → ElementBuilt z p c n attributes slash content children s
     cell_built r q m =
         part_built n attributes children ih slash content p c s (None ∷ s.formatting) s.frameset_ok InCell g k ff h
         ((part_tags n (among_passes (is_among table_part_names) cell_names n r refl)).2 z)
-        (in_flow (not-true (holds_parts n) (among_passes (λ m. not (holds_parts m)) cell_names n r refl)) (inr refl))
+        (in_flow (not-true (holds_parts n) (among_passes (λ m. not (holds_parts m)) cell_names n r refl))
+        (inr (inl refl)))
         (λ e y. cell_resets p c s h n r (length s.nodes) y) (inl (inr (s.formatting, refl, fewer_same s.formatting)))
         (cell_start p c s h q m n r attributes slash)
         (λ held stack mode there fewer. (
           after_marker held.formatting,
           fewer_cleared held.formatting s.formatting fewer,
           cell_end n (p ∷ c) held there (length s.nodes) s.stack n r stack mode
-              ∙ moded held s.stack (after_marker held.formatting) (sym m),
+              ∙ moded z held s.stack (after_marker held.formatting) (sym m),
         ))
+
+    caption_built : n ≡ codes "caption" → p ≡ codes "table" → s.mode ≡ InTable
+        → ElementBuilt z p c n attributes slash content children s
+    caption_built q o m =
+        part_built n attributes children ih slash content p c s (None ∷ s.formatting) s.frameset_ok InCaption g k ff h
+        ((part_tags n (rw q refl)).2 z) (in_flow (rw q refl) (inr (inr refl)))
+        (λ e y. subst (λ (m : List ℕ). mode_of (fresh z m s ∷ s.stack) y ≡ InCaption) (sym q)
+        (caption_resets p c s h (length s.nodes) y)) (inl (inr (s.formatting, refl, fewer_same s.formatting)))
+        (subst (λ (m : List ℕ). feed (start_tag (tag_named m attributes slash)) s
+        ≡ opened_as p c s h m attributes (None ∷ s.formatting) s.frameset_ok InCaption) (sym q)
+        (caption_start p c s h o m attributes slash))
+        (λ held stack mode there fewer. (
+          after_marker held.formatting,
+          fewer_cleared held.formatting s.formatting fewer,
+          subst (λ (m : List ℕ). feed (end_tag (tag_named m [] false)) held
+              ≡ record held { stack = s.stack; formatting = after_marker held.formatting; mode = InTable }) (sym q)
+              (caption_end n (p ∷ c) held there (length s.nodes) s.stack
+              (subst (λ (m : List ℕ). held.stack ≡ fresh z m s ∷ s.stack) q stack) mode)
+              ∙ moded z held s.stack (after_marker held.formatting) (sym m),
+        ))
+
+  -- a table: its end tag ends what is open in it too
+  table_built : (attributes : List AttributePair) (children : ValueForest) → TableBuilt z children
+      → (slash : Bool) (content : List TokenValue) (p : List ℕ) (c : List (List ℕ)) (s : StateValue)
+      → are_plain_table children ≡ true → SpellsTable children content
+      → FitsForest (codes "table" ∷ (p ∷ c)) children → InContext (p ∷ c) s → Fits (p ∷ c) (codes "table")
+      → Flows p s → ElementBuilt z p c (codes "table") attributes slash content children s
+  table_built attributes children tables slash content p c s g k ff h f w =
+      let n : List ℕ = codes "table" in
+      let first : StateValue = opened_as p c s h n attributes s.formatting false InTable in
+      let started = table_start p c s h w f attributes slash in
+      let i : InContext (n ∷ (p ∷ c)) first =
+      entered z p n c attributes s s.formatting false InTable h (in_table refl refl) (λ e. absurd (cc))
+      (inl (inl (fewer_same s.formatting))) in
+      let r = tables (p ∷ c) content first k g ff i (λ _. starts_empty p n c attributes s h) in
+      elim r.1 [
+        | inl b ↦
+            let new : StateValue = record (r.0) { stack = s.stack; mode = s.mode } in
+            let st = subst (λ stack. Stands (r.0).nodes (n ∷ (p ∷ c)) stack) b.stack b.in_context.stands in
+            let end = one_fed z n (p ∷ c) (end_tag (tag_named n [] false)) r.0 new [] new b.in_context
+            b.in_context.content (table_end n (p ∷ c) r.0 b.in_context (length s.nodes) s.stack n refl s.mode b.stack
+            b.mode (h.resets w.0)) nothing in
+            ended r.0 b.in_context.content b.in_context.no_skip b.in_context.no_foster b.in_context.no_template
+            started (followed z b.through end) b.nodes_are st.4 b.fewer
+        | inr b ↦
+            let new : StateValue = record (r.0) { stack = s.stack; mode = s.mode } in
+            let st = subst (λ stack. Stands (r.0).nodes (codes "tbody" ∷ (n ∷ (p ∷ c))) stack) b.stack
+            b.in_context.stands in
+            let end = one_fed z (codes "tbody") (n ∷ (p ∷ c)) (end_tag (tag_named n [] false)) r.0 new [] new
+            b.in_context b.in_context.content
+            (body_table_end (codes "tbody") (n ∷ (p ∷ c)) r.0 b.in_context b.section
+            (length s.nodes) s.stack s.mode b.stack b.mode (h.resets w.0)) nothing in
+            ended r.0 b.in_context.content b.in_context.no_skip b.in_context.no_foster b.in_context.no_template
+            started (followed z b.through end) b.nodes_are (st.4).4 b.fewer
+      ]
+    where
+      ended : (held : StateValue) → held.content ≡ Normal → held.skips_line_feed ≡ false
+          → held.foster_parenting ≡ false → held.template_modes ≡ []
+          → feed (start_tag (tag_named (codes "table") attributes slash)) s
+          ≡ opened_as p c s h (codes "table") attributes s.formatting false InTable
+          → Through z (opened_as p c s h (codes "table") attributes s.formatting false InTable)
+          (content ++ (end_tag (tag_named (codes "table") [] false) ∷ []))
+          (record held { stack = s.stack; mode = s.mode })
+          → held.nodes ≡ with_forest (length s.nodes) children
+          (opened_as p c s h (codes "table") attributes s.formatting false InTable).nodes
+          → Stands held.nodes (p ∷ c) s.stack → Fewer held.formatting s.formatting
+          → ElementBuilt z p c (codes "table") attributes slash content children s
+      ended held normal skip foster template started through nodes st fewer = (
+        record held { stack = s.stack; mode = s.mode },
+        record {
+          through = one_fed z p c (start_tag (tag_named (codes "table") attributes slash)) s _ _ _ h
+              (ap (λ (y : StateValue). y.content) started ∙ h.content) refl (from_state z started through);
+          nodes_are = nodes ∙ ap (with_forest (length s.nodes) children)
+              (element_added p c (codes "table") attributes s h)
+              ∙ filled (at s) (codes "table") attributes children s.nodes;
+          in_context = record {
+            mode = h.mode;
+            resets = h.resets;
+            content = normal;
+            no_skip = skip;
+            no_foster = foster;
+            no_template = template;
+            listed = fewer_trans held.formatting s.formatting (entries s.stack) fewer h.listed;
+            stands = st;
+          };
+          stack = refl;
+          mode = refl;
+          fewer = fewer;
+        },
+      )
 
   -- ---- elements
 
-  module _ (n : List ℕ) (attributes : List AttributePair) (children : ValueForest) (ih : ForestBuilt children)
+  not_table : (n : List ℕ) → (n ≡ codes "table" → ⊥) → is_table n ≡ false
+  not_table n a = test (is_table n) (λ t. absurd (a (one_name (codes "table") n t))) (λ t. t)
+
+  module _ (n : List ℕ) (attributes : List AttributePair) (children : ValueForest)
       (p : List ℕ) (c : List (List ℕ)) (xs : List TokenValue) (s : StateValue)
-      (k : SpellsTree (element n attributes children) xs)
-      (e : (is_plain_element n || is_plain_body n children) ≡ true) (g : are_plain children ≡ true)
-      (f : FitsTree (p ∷ c) (element n attributes children)) (h : InContext (p ∷ c) s) where
+      (k : SpellsTree (element n attributes children) xs) where
     abbrev Whole : Type 0
-    Whole = (new : StateValue) × Built (p ∷ c) xs (with_tree (at s) (element n attributes children) s.nodes) s new
+    Whole = (new : StateValue) × Built z (p ∷ c) xs (with_tree (at s) (element n attributes children) s.nodes) s new
 
     -- its tags stand around its content
-    with_content : is_void n ≡ false → ((slash : Bool) (content : List TokenValue)
-        → SpellsForest children (content_tokens n content) → ElementBuilt p c n attributes slash content children s)
+    with_content : is_void n ≡ false → is_table n ≡ false → ((slash : Bool) (content : List TokenValue)
+        → SpellsForest children (content_tokens n content)
+        → ElementBuilt z p c n attributes slash content children s)
         → Whole
-    with_content v built =
+    with_content v o built =
         let m = rw v at k.5 in
         let q : xs ≡ start_tag (tag_named n attributes k.0) ∷ (k.1 ++ (end_tag (tag_named n [] false) ∷ [])) =
         k.3 ∙ ap (λ (ys : List TokenValue). start_tag (tag_named n attributes k.0) ∷ (k.1 ++ ys)) m.1 in
-        rw q (built k.0 k.1 k.4)
+        rw q (built k.0 k.1 (rw o at k.4))
 
-    part_whole : is_among table_part_names n ≡ true → ((slash : Bool) (content : List TokenValue)
-        → SpellsForest children content → ElementBuilt p c n attributes slash content children s) → Whole
-    part_whole r built =
+    part_whole : is_among table_part_names n ≡ true → is_table n ≡ false → ((slash : Bool)
+        (content : List TokenValue) → SpellsForest children content
+        → ElementBuilt z p c n attributes slash content children s) → Whole
+    part_whole r o built =
         let t = part_tags n r in
-        with_content t.0 (λ slash content spelled. built slash content (rw t.1 at spelled))
+        with_content t.0 o (λ slash content spelled. built slash content (rw t.1 at spelled))
 
-    void_whole : is_void n ≡ true → is_plain_element n ≡ true → Flows p s → Whole
-    void_whole v a w =
+  -- the rows at the end of a table, with the tags of their section
+  tagged_rows : (n : List ℕ) (attributes : List AttributePair) (children : ValueForest) → ForestBuilt z children
+      → (c : List (List ℕ)) (xs : List TokenValue) (s : StateValue)
+      → SpellsTree (element n attributes children) xs
+      → is_tbody n ≡ true → are_plain children ≡ true → FitsForest (n ∷ (codes "table" ∷ c)) children
+      → InContext (codes "table" ∷ c) s → s.mode ≡ InTable
+      → (new : StateValue) × Built z (codes "table" ∷ c) xs
+      (with_tree (at s) (element n attributes children) s.nodes) s
+      new
+  tagged_rows n attributes children ih c xs s k b g ff h m =
+      let name : n ≡ codes "tbody" = one_name (codes "tbody") n b in
+      part_whole n attributes children (codes "table") c xs s k (rw name refl)
+      (not_table n (λ t. let w = sym name ∙ t in cc))
+      (λ slash content spelled. section_built n attributes children ih slash content (codes "table") c s g spelled ff h
+      (rw name refl) refl m)
+
+  module _ (n : List ℕ) (attributes : List AttributePair) (children : ValueForest) (ih : ForestBuilt z children)
+      (tables : TableBuilt z children) (p : List ℕ) (c : List (List ℕ)) (xs : List TokenValue) (s : StateValue)
+      (k : SpellsTree (element n attributes children) xs)
+      (e : (is_plain_element n || is_plain_body n children) ≡ true)
+      (inner : (if is_table n then are_plain_table children else are_plain children) ≡ true)
+      (f : FitsTree (p ∷ c) (element n attributes children)) (h : InContext (p ∷ c) s) where
+    abbrev Made : Type 0
+    Made = (new : StateValue) × Built z (p ∷ c) xs (with_tree (at s) (element n attributes children) s.nodes) s new
+
+    plain_in : is_table n ≡ false → are_plain children ≡ true
+    plain_in o = rw o at inner
+
+    void_whole : is_void n ≡ true → is_plain_element n ≡ true → is_table n ≡ false → Flows p s → Made
+    void_whole v a o w =
         let m = rw v at k.5 in
         let u = rw v at a in
-        let held : SpellsForest children k.1 = rw (void_keeps n v) at k.4 in
+        let spelled : SpellsForest children (content_tokens n k.1) = rw o at k.4 in
+        let held : SpellsForest children k.1 = rw (void_keeps n v) at spelled in
         let none_held : k.1 ≡ [] = subst (λ ts. SpellsForest ts k.1) m.0 held in
         let q : xs ≡ start_tag (tag_named n attributes k.0) ∷ [] =
         k.3 ∙ ap (λ (ys : List TokenValue). start_tag (tag_named n attributes k.0) ∷ (ys ++ k.2)) none_held
         ∙ ap (λ (ys : List TokenValue). start_tag (tag_named n attributes k.0) ∷ ys) m.1 in
-        rw (q, m.0) (void_built n attributes k.0 p c s v u f.0 h w)
+        rw (q, m.0) (void_built z n attributes k.0 p c s v u f.0 h w)
 
-    pre_whole : n ≡ codes "pre" → is_void n ≡ false → Flows p s → Whole
-    pre_whole q v w =
-        with_content v (λ slash content spelled. subst (λ m. SpellsForest children (content_tokens m content)
+    pre_whole : n ≡ codes "pre" → is_void n ≡ false → is_table n ≡ false → Flows p s → Made
+    pre_whole q v o w =
+        let g = plain_in o in
+        with_content n attributes children p c xs s k v o
+        (λ slash content spelled. subst (λ m. SpellsForest children (content_tokens m content)
         → Fits (p ∷ c) m → FitsForest (m ∷ (p ∷ c)) children
-        → ElementBuilt p c m attributes slash content children s)
-        (sym q) (λ spelled there below. pre_built attributes children ih slash content p c s g spelled there below h w)
+        → ElementBuilt z p c m attributes slash content children s)
+        (sym q) (λ spelled there below. pre_built z attributes children ih slash content p c s g spelled there below h
+        w)
         spelled f.0 f.1)
 
-    in_flow_whole : Flows p s → Whole
+    table_whole : n ≡ codes "table" → is_table n ≡ true → Flows p s → Made
+    table_whole q t w =
+        let v : is_void n ≡ false = (part_tags n (rw q refl)).0 in
+        let m = rw v at k.5 in
+        let g : xs ≡ start_tag (tag_named n attributes k.0) ∷ (k.1 ++ (end_tag (tag_named n [] false) ∷ [])) =
+        k.3 ∙ ap (λ (ys : List TokenValue). start_tag (tag_named n attributes k.0) ∷ (k.1 ++ ys)) m.1 in
+        rw g (subst (λ m. Fits (p ∷ c) m → FitsForest (m ∷ (p ∷ c)) children
+        → ElementBuilt z p c m attributes k.0 k.1 children s) (sym q)
+        (λ there below. table_built attributes children tables k.0 k.1 p c s (rw t at inner) (rw t at k.4) below h
+        there
+        w) f.0 f.1)
+
+    in_flow_whole : Flows p s → Made
     in_flow_whole w =
         let part = flow_fits p n w.0 (f.0).table in
         let a = plain_in_flow n children part e in
-        test (is_void n) (λ v. void_whole v a w)
+        test (is_table n) (λ o. table_whole (one_name (codes "table") n o) o w)
+        (λ o. let g = plain_in o in
+        test (is_void n) (λ v. void_whole v a o w)
         (λ v. test (is_plain_name n)
-        (λ t. with_content v (λ slash content spelled. full_built n attributes children ih slash content p c s t g
-        (rw (keeps_name n t) at spelled) f.0 f.1 h w))
-        (λ t. test (is_among (codes "pre" ∷ []) n) (λ y. pre_whole (one_name (codes "pre") n y) v w)
+        (λ t. with_content n attributes children p c xs s k v o (λ slash content spelled. full_built z n attributes
+        children ih slash content p c s t g (rw (keeps_name n t) at spelled) f.0 f.1 h w))
+        (λ t. test (is_among (codes "pre" ∷ []) n) (λ y. pre_whole (one_name (codes "pre") n y) v o w)
         (λ y. test (is_among text_names n)
-        (λ x. with_content v (λ slash content spelled. text_alone_built n attributes children slash content p c s x
-        (rw (text_keeps n x) at spelled) f.0 f.1 (f.2 x) h w))
+        (λ x. with_content n attributes children p c xs s k v o (λ slash content spelled. text_alone_built z n
+        attributes children slash content p c s x (rw (text_keeps n x) at spelled) f.0 f.1 (f.2 x) h w))
         (λ x. let q = table_alone n (rw (v, t, y, x) at a) part in
-        part_whole (rw q refl) (λ slash content spelled. table_built n attributes children ih slash content p c s g
-        spelled f.1 h q f.0 w)))))
+        absurd (let u = rw q at o in cc))))))
 
-    element_built : Whole
+    element_built : Made
     element_built = by_case h.mode
       where
-        by_case : ModeIn p s.mode → Whole
+        by_case : ModeIn p s.mode → Made
         by_case (in_flow o w) = in_flow_whole (o, w)
         by_case (in_table q m) =
-            let r = section_plain n children (table_fits n (subst (λ y. fits_table y n ≡ true) q (f.0).table)) e in
-            part_whole (among_passes (is_among table_part_names) section_names n r refl)
-            (λ slash content spelled. section_built n attributes children ih slash content p c s g spelled f.1 h r q m)
+            elim (section_plain n children (table_fits n (subst (λ y. fits_table y n ≡ true) q (f.0).table)) e) [
+              | inl r ↦
+                  let o = not-true (is_table n) (among_passes (λ m. not (is_table m)) section_names n r refl) in
+                  part_whole n attributes children p c xs s k
+                  (among_passes (is_among table_part_names) section_names n r refl) o
+                  (λ slash content spelled. section_built n attributes children ih slash content p c s (plain_in o)
+                  spelled f.1 h r q m)
+              | inr r ↦
+                  let o = not_table n (λ t. let w = sym r ∙ t in cc) in
+                  part_whole n attributes children p c xs s k (rw r refl) o
+                  (λ slash content spelled. caption_built n attributes children ih slash content p c s (plain_in o)
+                  spelled f.1 h r q m)
+            ]
         by_case (in_section r m) =
             let q = one_name (codes "tr") n (section_fits p n r (f.0).table) in
-            part_whole (rw q refl)
-            (λ slash content spelled. row_built n attributes children ih slash content p c s g spelled f.1 h q r m)
+            let o = not_table n (λ t. let w = sym q ∙ t in cc) in
+            part_whole n attributes children p c xs s k (rw q refl) o
+            (λ slash content spelled. row_built n attributes children ih slash content p c s (plain_in o) spelled f.1 h
+            q r m)
         by_case (in_row q m) =
             let r = row_fits n (subst (λ y. fits_table y n ≡ true) q (f.0).table) in
-            part_whole (among_passes (is_among table_part_names) cell_names n r refl)
-            (λ slash content spelled. cell_built n attributes children ih slash content p c s g spelled f.1 h r q m)
+            let o = not-true (is_table n) (among_passes (λ m. not (is_table m)) cell_names n r refl) in
+            part_whole n attributes children p c xs s k
+            (among_passes (is_among table_part_names) cell_names n r refl) o
+            (λ slash content spelled. cell_built n attributes children ih slash content p c s (plain_in o) spelled f.1
+            h
+            r q m)
 
   -- ---- one tree after another
 
-  next_built : (t : ValueTree) (ts : ValueForest) → TreeBuilt t → ForestBuilt ts → ForestBuilt (more t ts)
+  -- the nodes of both
+  both_nodes : (p : List ℕ) (c : List (List ℕ)) (t : ValueTree) (ts : ValueForest) (s first new : StateValue)
+      → InContext (p ∷ c) s → first.stack ≡ s.stack → first.nodes ≡ with_tree (at s) t s.nodes
+      → new.nodes ≡ with_forest (at first) ts first.nodes
+      → new.nodes ≡ with_forest (at s) (more t ts) s.nodes
+  both_nodes p c t ts s first new h stack nodes others =
+      let there : at first ≡ at s = ap (λ (stack : List OpenValue). (current stack).node) stack in
+      others ∙ ap (λ m. with_forest m ts first.nodes) there
+      ∙ ap (with_forest (at s) ts) nodes ∙ forest_joined (at s) t ts s.nodes (within p c s h)
+
+  -- what is behind a tree doesn't begin in its text
+  text_apart : (p : List ℕ) (c : List (List ℕ)) (t : ValueTree) (ts : ValueForest) (s first : StateValue)
+      → InContext (p ∷ c) s → first.stack ≡ s.stack → first.nodes ≡ with_tree (at s) t s.nodes
+      → Apart t ts
+      → begins_text ts ≡ true → last_text first.nodes (at first) ≡ None
+  text_apart p c t ts s first h stack nodes a i =
+      let there : at first ≡ at s = ap (λ (stack : List OpenValue). (current stack).node) stack in
+      ap (last_text first.nodes) there ∙ ap (λ (ns : List NodeValue). last_text ns (at s)) nodes
+      ∙ tree_last t (at s) s.nodes (within p c s h) ∙ no_text_next t ts a i
+
+  both_built : (p : List ℕ) (c : List (List ℕ)) (t : ValueTree) (ts : ValueForest) (xs ys zs : List TokenValue)
+      (s : StateValue) → InContext (p ∷ c) s → xs ≡ ys ++ zs
+      → (first : (m : StateValue) × Built z (p ∷ c) ys (with_tree (at s) t s.nodes) s m)
+      → ((new : StateValue) × Built z (p ∷ c) zs (with_forest (at first.0) ts (first.0).nodes) first.0 new)
+      → (new : StateValue) × Built z (p ∷ c) xs (with_forest (at s) (more t ts) s.nodes) s new
+  both_built p c t ts xs ys zs s h e first others = (
+    others.0,
+    record {
+      through = subst (λ ws. Through z s ws others.0) (sym e) (followed z first.1.through others.1.through);
+      nodes_are = both_nodes p c t ts s first.0 others.0 h first.1.stack first.1.nodes_are others.1.nodes_are;
+      in_context = others.1.in_context;
+      stack = others.1.stack ∙ first.1.stack;
+      mode = others.1.mode ∙ first.1.mode;
+      fewer = fewer_trans (others.0).formatting (first.0).formatting s.formatting others.1.fewer first.1.fewer;
+    },
+  )
+
+  next_built : (t : ValueTree) (ts : ValueForest) → TreeBuilt z t → ForestBuilt z ts → ForestBuilt z (more t ts)
   next_built t ts this all p c xs s k e f h st =
       let g = and_parts (is_plain_tree t) (are_plain ts) e in
       let first = this p c k.0 s k.3 g.0 f.1 h st in
-      let there : at first.0 ≡ at s = ap (λ (stack : List OpenValue). (current stack).node) first.1.stack in
-      let others = all p c k.1 first.0 k.4 g.1 f.2 first.1.in_context
-      (λ i. ap (last_text (first.0).nodes) there ∙ ap (λ (ns : List NodeValue). last_text ns (at s))
-      first.1.nodes_are
-      ∙ tree_last t (at s) s.nodes (within p c s h) ∙ no_text_next t ts f.0 i) in (
-        others.0,
+      both_built p c t ts xs k.0 k.1 s h k.2 first
+      (all p c k.1 first.0 k.4 g.1 f.2 first.1.in_context
+      (text_apart p c t ts s first.0 h first.1.stack first.1.nodes_are f.0))
+
+  nothing_built : ForestBuilt z none
+  nothing_built p c xs s k e f h st = (
+    s,
+    record {
+      through = rw k nothing;
+      nodes_are = sym (append-nil (append_children (at s) [] s.nodes) ∙ append_none (at s) s.nodes
+          (within p c s h));
+      in_context = h;
+      stack = refl;
+      mode = refl;
+      fewer = fewer_same s.formatting;
+    },
+  )
+
+  -- ---- what a table holds
+
+  table_mode : (m : InsertionMode) → ModeIn (codes "table") m → m ≡ InTable
+  table_mode m (in_table q e) = e
+  table_mode m (in_section r e) = absurd (cc)
+  table_mode m (in_row q e) = absurd (cc)
+  table_mode m (in_flow o w) = absurd (cc)
+
+  -- a tree alone
+  alone_built : (c : List (List ℕ)) (t : ValueTree) (xs : List TokenValue) (s : StateValue)
+      → InContext (codes "table" ∷ c) s
+      → ((m : StateValue) × Built z (codes "table" ∷ c) xs (with_tree (at s) t s.nodes) s m)
+      → (new : StateValue) × (Built z (codes "table" ∷ c) xs (with_forest (at s) (more t none) s.nodes) s new
+      ⊎ Rows z (codes "table" ∷ c) xs (with_forest (at s) (more t none) s.nodes) s new)
+  alone_built c t xs s h first =
+      let r = both_built (codes "table") c t none xs xs [] s h (sym (append-nil xs)) first
+      (nothing_built (codes "table") c [] first.0 refl refl tt first.1.in_context (λ i. absurd (cc))) in
+      (r.0, inl r.1)
+
+  -- rows begin with the tag of one
+  row_token : (ks : ValueForest) (xs : List TokenValue) → SpellsForest ks xs → begins_with_row ks ≡ true
+      → (attributes : List AttributePair) × (slash : Bool) × (ys : List TokenValue)
+      × (xs ≡ start_tag (tag_named (codes "tr") attributes slash) ∷ ys)
+  row_token none xs k b = absurd (cc)
+  row_token (more (element n attributes kk) us) xs k b =
+      let q = k.3 in
+      let name : n ≡ codes "tr" = one_name (codes "tr") n b in (
+        attributes,
+        q.0,
+        (q.1 ++ q.2) ++ k.1,
+        k.2 ∙ ap (λ (ys : List TokenValue). ys ++ k.1) q.3
+            ∙ ap (λ (m : List ℕ). start_tag (tag_named m attributes q.0) ∷ ((q.1 ++ q.2) ++ k.1)) name,
+      )
+  row_token (more _ us) xs k b = absurd (cc)
+
+  -- rows without the start tag of their section
+  bare_rows : (children : ValueForest) → ForestBuilt z children → (c : List (List ℕ)) (content : List TokenValue)
+      (s : StateValue) → SpellsForest children content → begins_with_row children ≡ true
+      → are_plain children ≡ true → FitsForest (codes "tbody" ∷ (codes "table" ∷ c)) children
+      → InContext (codes "table" ∷ c) s → s.mode ≡ InTable
+      → (new : StateValue) × Rows z (codes "table" ∷ c) content
+      (with_tree (at s) (element (codes "tbody") [] children) s.nodes) s new
+  bare_rows children ih c content s k b g ff h m =
+      let p : List ℕ = codes "table" in
+      let n : List ℕ = codes "tbody" in
+      let first : StateValue = implied_body p c s h in
+      let i : InContext (n ∷ (p ∷ c)) first =
+      entered z p n c [] s s.formatting s.frameset_ok InTableBody h (in_section refl refl) (λ e. absurd (cc))
+      (inl (inl (fewer_same s.formatting))) in
+      let r = ih n (p ∷ c) content first k g ff i (λ _. starts_empty p n c [] s h) in
+      let row = row_token children content k b in
+      let x : TokenValue = start_tag (tag_named (codes "tr") row.0 row.1) in
+      let same : feed x s ≡ feed x first = implied_row p c s h refl m i row.0 row.1 in
+      let run = parts z (subst (λ ws. Through z first ws r.0) row.3 r.1.through) in
+      let through : Through z s (x ∷ row.2) r.0 =
+      with_fed z x s (feed x first) row.2 r.0 (stands_html s.nodes (p ∷ c) s.stack h.stands)
+      run.1 same run.2 in (
+        r.0,
         record {
-          through = subst (λ ys. Through z s ys others.0) (sym k.2) (followed z first.1.through others.1.through);
-          nodes_are = others.1.nodes_are ∙ ap (λ m. with_forest m ts (first.0).nodes) there
-              ∙ ap (with_forest (at s) ts) first.1.nodes_are ∙ forest_joined (at s) t ts s.nodes (within p c s h);
-          in_context = others.1.in_context;
-          stack = others.1.stack ∙ first.1.stack;
-          mode = others.1.mode ∙ first.1.mode;
-          fewer = fewer_trans (others.0).formatting (first.0).formatting s.formatting others.1.fewer first.1.fewer;
+          through = subst (λ ws. Through z s ws r.0) (sym row.3) through;
+          nodes_are = r.1.nodes_are ∙ ap (with_forest (length s.nodes) children) (element_added p c n [] s h)
+              ∙ filled (at s) n [] children s.nodes;
+          in_context = r.1.in_context;
+          section = length s.nodes;
+          stack = r.1.stack;
+          mode = r.1.mode;
+          fewer = r.1.fewer;
         },
       )
 
+  -- and with its end tag
+  ended_rows : (children : ValueForest) (c : List (List ℕ)) (content : List TokenValue) (s : StateValue)
+      → InContext (codes "table" ∷ c) s → s.mode ≡ InTable
+      → ((held : StateValue) × Rows z (codes "table" ∷ c) content
+      (with_tree (at s) (element (codes "tbody") [] children) s.nodes) s held)
+      → (new : StateValue) × Built z (codes "table" ∷ c)
+      (content ++ (end_tag (tag_named (codes "tbody") [] false) ∷ []))
+      (with_tree (at s) (element (codes "tbody") [] children) s.nodes) s new
+  ended_rows children c content s h m r =
+      let p : List ℕ = codes "table" in
+      let n : List ℕ = codes "tbody" in
+      let b = r.1 in
+      let new : StateValue = record (r.0) { stack = s.stack; mode = s.mode } in
+      let st = subst (λ stack. Stands (r.0).nodes (n ∷ (p ∷ c)) stack) b.stack b.in_context.stands in
+      let closed = section_end n (p ∷ c) r.0 b.in_context b.section s.stack n refl b.stack b.mode
+      ∙ ap (λ (i : InsertionMode). record (r.0) { stack = s.stack; mode = i }) (sym m) in
+      let end = one_fed z n (p ∷ c) (end_tag (tag_named n [] false)) r.0 new [] new b.in_context b.in_context.content
+      closed nothing in (
+        new,
+        record {
+          through = followed z b.through end;
+          nodes_are = b.nodes_are;
+          in_context = record {
+            mode = h.mode;
+            resets = h.resets;
+            content = b.in_context.content;
+            no_skip = b.in_context.no_skip;
+            no_foster = b.in_context.no_foster;
+            no_template = b.in_context.no_template;
+            listed = fewer_trans (r.0).formatting s.formatting (entries s.stack) b.fewer h.listed;
+            stands = st.4;
+          };
+          stack = refl;
+          mode = refl;
+          fewer = b.fewer;
+        },
+      )
+
+  -- no trees behind nodes
+  nothing_joined : (nodes : List NodeValue) (n : ℕ) → n < length nodes → with_forest n none nodes ≡ nodes
+  nothing_joined nodes n l = append-nil (append_children n [] nodes) ∙ append_none n nodes l
+
+  open_within : (c : List (List ℕ)) (t : ValueTree) (s : StateValue) → InContext (codes "table" ∷ c) s
+      → at s < length (with_tree (at s) t s.nodes)
+  open_within c t s h =
+      let l = within (codes "table") c s h in
+      let m = with_tree_longer (at s) t s.nodes in omega (arith, l, m)
+
+  -- open rows alone
+  open_alone : (c : List (List ℕ)) (t : ValueTree) (xs : List TokenValue) (s : StateValue)
+      → InContext (codes "table" ∷ c) s
+      → ((m : StateValue) × Rows z (codes "table" ∷ c) xs (with_tree (at s) t s.nodes) s m)
+      → (new : StateValue) × (Built z (codes "table" ∷ c) xs (with_forest (at s) (more t none) s.nodes) s new
+      ⊎ Rows z (codes "table" ∷ c) xs (with_forest (at s) (more t none) s.nodes) s new)
+  open_alone c t xs s h r =
+      let b = r.1 in (
+        r.0,
+        inr (record {
+          through = b.through;
+          nodes_are = b.nodes_are ∙ sym (nothing_joined (with_tree (at s) t s.nodes) (at s) (open_within c t s h))
+              ∙ forest_joined (at s) t none s.nodes (within (codes "table") c s h);
+          in_context = b.in_context;
+          section = b.section;
+          stack = b.stack;
+          mode = b.mode;
+          fewer = b.fewer;
+        }),
+      )
+
+  -- the last tree of a table
+  last_built : (t : ValueTree) → TreeBuilt z t → (c : List (List ℕ)) (xs : List TokenValue) (s : StateValue)
+      → SpellsTree t xs → is_plain_tree t ≡ true → FitsTree (codes "table" ∷ c) t
+      → InContext (codes "table" ∷ c) s
+      → (is_text t ≡ true → last_text s.nodes (at s) ≡ None)
+      → (new : StateValue) × (Built z (codes "table" ∷ c) xs (with_forest (at s) (more t none) s.nodes) s new
+      ⊎ Rows z (codes "table" ∷ c) xs (with_forest (at s) (more t none) s.nodes) s new)
+  last_built t this c xs s k e f h st = alone_built c t xs s h (this (codes "table") c xs s k e f h st)
+
+  rows_built : (n : List ℕ) (attributes : List AttributePair) (children : ValueForest) → ForestBuilt z children
+      → (c : List (List ℕ)) (xs : List TokenValue) (s : StateValue)
+      → SpellsRows (element n attributes children) xs
+      → are_plain children ≡ true → FitsForest (n ∷ (codes "table" ∷ c)) children
+      → InContext (codes "table" ∷ c) s
+      → (new : StateValue) × (Built z (codes "table" ∷ c) xs
+      (with_forest (at s) (more (element n attributes children) none) s.nodes) s new
+      ⊎ Rows z (codes "table" ∷ c) xs (with_forest (at s) (more (element n attributes children) none) s.nodes) s
+      new)
+  rows_built n attributes children ih c xs s k g ff h =
+      let p : List ℕ = codes "table" in
+      let name : n ≡ codes "tbody" = one_name (codes "tbody") n k.3 in
+      let m = table_mode s.mode h.mode in
+      let open_ = bare_rows children ih c k.0 s k.6 k.5 g
+      (subst (λ (y : List ℕ). FitsForest (y ∷ (p ∷ c)) children) name ff) h m in
+      rw (name, k.4, k.2) (elim k.7 [
+        | inl e ↦ rw e (open_alone c (element (codes "tbody") [] children) (k.0 ++ []) s h
+            (subst (λ (ys : List TokenValue). (held : StateValue) × Rows z (p ∷ c) ys
+            (with_tree (at s) (element (codes "tbody") [] children) s.nodes) s held) (sym (append-nil k.0)) open_))
+        | inr e ↦ rw e (alone_built c (element (codes "tbody") [] children)
+            (k.0 ++ (end_tag (tag_named (codes "tbody") [] false) ∷ [])) s h (ended_rows children c k.0 s h m open_))
+      ])
+
+  plain_of_last : (t : ValueTree) → (is_plain_tree t || are_plain_rows t) ≡ true → is_plain_tree t ≡ false
+      → are_plain_rows t ≡ true
+  plain_of_last t e f = rw f at e
+
+  rows_not_plain : (n : List ℕ) (attributes : List AttributePair) (children : ValueForest) → is_tbody n ≡ true
+      → begins_with_row children ≡ true → is_plain_tree (element n attributes children) ≡ true → ⊥
+  unfolding is_void
+  rows_not_plain n attributes children t b e =
+      let inner = if is_table n then are_plain_table children else are_plain children in
+      let g = (and_parts (is_plain_element n || is_plain_body n children) inner e).0 in
+      let name : n ≡ codes "tbody" = one_name (codes "tbody") n t in
+      let w = rw (name, b) at g in cc
+
+  -- a tree and what is behind it in a table
+  more_built : (c : List (List ℕ)) (t : ValueTree) (ts : ValueForest) (xs ys zs : List TokenValue)
+      (s : StateValue) → InContext (codes "table" ∷ c) s → xs ≡ ys ++ zs
+      → (first : (m : StateValue) × Built z (codes "table" ∷ c) ys (with_tree (at s) t s.nodes) s m)
+      → ((new : StateValue) × (Built z (codes "table" ∷ c) zs (with_forest (at first.0) ts (first.0).nodes) first.0
+      new
+      ⊎ Rows z (codes "table" ∷ c) zs (with_forest (at first.0) ts (first.0).nodes) first.0 new))
+      → (new : StateValue) × (Built z (codes "table" ∷ c) xs (with_forest (at s) (more t ts) s.nodes) s new
+      ⊎ Rows z (codes "table" ∷ c) xs (with_forest (at s) (more t ts) s.nodes) s new)
+  more_built c t ts xs ys zs s h e first others = by_others others.1
+    where
+      p : List ℕ
+      p = codes "table"
+
+      by_others : (Built z (codes "table" ∷ c) zs (with_forest (at first.0) ts (first.0).nodes) first.0 others.0
+          ⊎ Rows z (codes "table" ∷ c) zs (with_forest (at first.0) ts (first.0).nodes) first.0 others.0)
+          → (new : StateValue) × (Built z (codes "table" ∷ c) xs (with_forest (at s) (more t ts) s.nodes) s new
+          ⊎ Rows z (codes "table" ∷ c) xs (with_forest (at s) (more t ts) s.nodes) s new)
+      by_others (inl b) = let r = both_built p c t ts xs ys zs s h e first (others.0, b) in (r.0, inl r.1)
+      by_others (inr b) = (
+        others.0,
+        inr (record {
+          through = subst (λ ws. Through z s ws others.0) (sym e) (followed z first.1.through b.through);
+          nodes_are = both_nodes p c t ts s first.0 others.0 h first.1.stack first.1.nodes_are b.nodes_are;
+          in_context = b.in_context;
+          section = b.section;
+          stack = b.stack ∙ ap (λ (stack : List OpenValue).
+              opened b.section (html (name_of_text (codes "tbody"))) ∷ stack) first.1.stack;
+          mode = b.mode;
+          fewer = fewer_trans (others.0).formatting (first.0).formatting s.formatting b.fewer first.1.fewer;
+        }),
+      )
+
   mutual
-    tree_built : (t : ValueTree) → TreeBuilt t
-    tree_built (text u) p c xs s k e f h st = text_built u p c xs s k e f h st
-    tree_built (comment u) p c xs s k e f h st = comment_built u p c xs s k e f h st
+    tree_built : (t : ValueTree) → TreeBuilt z t
+    tree_built (text u) p c xs s k e f h st = text_built z u p c xs s k e f h st
+    tree_built (comment u) p c xs s k e f h st = comment_built z u p c xs s k e f h st
     tree_built (element n attributes children) p c xs s k e f h st =
-        let g = and_parts (is_plain_element n || is_plain_body n children) (are_plain children) e in
-        element_built n attributes children (forest_built children) p c xs s k g.0 g.1 f h
+        let inner = if is_table n then are_plain_table children else are_plain children in
+        let g = and_parts (is_plain_element n || is_plain_body n children) inner e in
+        element_built n attributes children (forest_built children) (table_forest_built children) p c xs s k g.0 g.1 f h
     tree_built _ p c xs s k e f h st = absurd k
 
-    pub forest_built : (ts : ValueForest) → ForestBuilt ts
-    forest_built none p c xs s k e f h st = (
-      s,
-      record {
-        through = rw k nothing;
-        nodes_are = sym (append-nil (append_children (at s) [] s.nodes) ∙ append_none (at s) s.nodes
-            (within p c s h));
-        in_context = h;
-        stack = refl;
-        mode = refl;
-        fewer = fewer_same s.formatting;
-      },
-    )
+    table_forest_built : (ts : ValueForest) → TableBuilt z ts
+    table_forest_built none c xs s k e f h st =
+        let r = nothing_built (codes "table") c xs s k refl tt h st in (r.0, inl r.1)
+    table_forest_built (more (text u) none) c xs s (inl k) e f h st =
+        last_built (text u) (text_built z u) c xs s k refl f.1 h st
+    table_forest_built (more (comment u) none) c xs s (inl k) e f h st =
+        last_built (comment u) (comment_built z u) c xs s k refl f.1 h st
+    table_forest_built (more (text u) none) c xs s (inr k) e f h st = absurd k
+    table_forest_built (more (comment u) none) c xs s (inr k) e f h st = absurd k
+    table_forest_built (more (element n attributes children) none) c xs s (inl k) e f h st =
+        let t = element n attributes children in
+        test (is_plain_tree t)
+        (λ w. let inner = if is_table n then are_plain_table children else are_plain children in
+        let g = and_parts (is_plain_element n || is_plain_body n children) inner w in
+        alone_built c t xs s h (element_built n attributes children (forest_built children)
+        (table_forest_built children) (codes "table") c xs s k g.0 g.1 f.1 h))
+        (λ w. let g = and_parts (is_tbody n && begins_with_row children) (are_plain children) (plain_of_last t e w) in
+        alone_built c t xs s h (tagged_rows n attributes children (forest_built children) c xs s k
+        (and_parts (is_tbody n) (begins_with_row children) g.0).0 g.1 (f.1).1 h (table_mode s.mode h.mode)))
+    table_forest_built (more (element n attributes children) none) c xs s (inr k) e f h st =
+        let t = element n attributes children in
+        test (is_plain_tree t)
+        (λ w. absurd (rows_not_plain n attributes children k.3 k.5 w))
+        (λ w. let g = and_parts (is_tbody n && begins_with_row children) (are_plain children) (plain_of_last t e w) in
+        rows_built n attributes children (forest_built children) c xs s k g.1 (f.1).1 h)
+    table_forest_built (more _ none) c xs s k e f h st = absurd (elim k [ inl x ↦ x | inr x ↦ x ])
+    table_forest_built (more t (more u us)) c xs s k e f h st =
+        let g = and_parts (is_plain_tree t) (are_plain_table (more u us)) e in
+        let first = tree_built t (codes "table") c k.0 s k.3 g.0 f.1 h st in
+        more_built c t (more u us) xs k.0 k.1 s h k.2 first
+        (table_forest_built (more u us) c k.1 first.0 k.4 g.1 f.2 first.1.in_context
+        (text_apart (codes "table") c t (more u us) s first.0 h first.1.stack first.1.nodes_are f.0))
+
+    pub forest_built : (ts : ValueForest) → ForestBuilt z ts
+    forest_built none p c xs s k e f h st = nothing_built p c xs s k e f h st
     forest_built (more t ts) p c xs s k e f h st = next_built t ts (tree_built t) (forest_built ts) p c xs s k e f h st

@@ -11,7 +11,8 @@ use Rattle.htmd_html5_state.specs.Nodes.{kind_at, element}
 use Rattle.htmd_html5_state.specs.OpenElements.{OpenValue, is_in_scope, close, close_name, pop, pop_until}
 use Rattle.htmd_html5_state.specs.Insertion.{opened}
 use Rattle.htmd_html5_state.specs.Formatting.{is_listed}
-use Rattle.htmd_html5_state.specs.Adoption.{formatting_element, closes_at_once, round_of, round_with, last_round, go_on}
+use Rattle.htmd_html5_state.specs.Adoption.{formatting_element, closes_at_once, round_of, round_with, last_round}
+use Rattle.htmd_html5_state.specs.Adoption.{go_on}
 use Rattle.htmd_html5_state.specs.Adoption.{rounds, adoption_agency}
 use Rattle.htmd_html5_state.specs.State.{StateValue, on_stack}
 use Rattle.htmd_html5_state.specs.declared.names.TagName.{TagName}
@@ -24,10 +25,11 @@ use Rattle.htmd_html5.specs.Modes.{in_mode}
 use Rattle.htmd_law_html5.specs.StrictTokens.{tag_named}
 use Rattle.htmd_law_html5.proofs.StrictOpen.{Fewer, listed_in, entries, Below, new_unlisted}
 use Rattle.htmd_law_html5.proofs.StrictNames.{same_itself, PlainCase, is_formatting_case, unknown, ordinary}
-use Rattle.htmd_law_html5.proofs.StrictNames.{formatting, anchor, paragraph, block, heading, list_item, part, no_break}
+use Rattle.htmd_law_html5.proofs.StrictNames.{formatting, anchor, paragraph, block, heading, list_item, part}
+use Rattle.htmd_law_html5.proofs.StrictNames.{no_break}
 use Rattle.htmd_law_html5.proofs.StrictNames.{button}
 use Rattle.htmd_law_html5.proofs.StrictRules.{InContext, unskipped, no_raw, goes, processed, by_flow}
-use Rattle.htmd_law_html5.proofs.StrictModes.{IsFlow, flows, ends_in_cell}
+use Rattle.htmd_law_html5.proofs.StrictModes.{IsFlow, flows, ends_in_cell, ends_in_caption}
 use Rattle.htmd_html5_state.specs.declared.names.TagName.TheVariants as tags
 use Rattle.htmd_html5.specs.Tokens as construction
 
@@ -125,7 +127,8 @@ module _ (p : List ℕ) (c : List (List ℕ)) (s : StateValue) (h : InContext (p
   ended : (n : List ℕ) (new : StateValue) → IsFlow s.mode → flows n ≡ true
       → end_in_body (name_of_text n) s ≡ done new → feed (end_tag (tag_named n [] false)) s ≡ new
   ended n new w f e =
-      fed_end n new (by_flow p c s h (construction.end_tag (name_of_text n)) w e (ends_in_cell n f s ∙ e))
+      fed_end n new (by_flow p c s h (construction.end_tag (name_of_text n)) w e (ends_in_cell n f s ∙ e)
+      (ends_in_caption n f s ∙ e))
 
   plain_ended : (n : List ℕ) (k : PlainCase n) → is_formatting_case k ≡ false → (node : ℕ)
       (es : List OpenValue) → s.stack ≡ opened node (html (name_of_text n)) ∷ es

@@ -80,9 +80,13 @@ a_table : is_plain_element (codes "table") ≡ true
 unfolding is_void
 a_table = refl
 
-a_caption_is_not_plain : is_plain_element (codes "caption") ≡ false
+a_caption_is_plain : is_plain_element (codes "caption") ≡ true
 unfolding is_void
-a_caption_is_not_plain = refl
+a_caption_is_plain = refl
+
+columns_are_not : is_plain_element (codes "colgroup") ≡ false
+unfolding is_void
+columns_are_not = refl
 
 an_element_of_only_text : is_plain_element (codes "style") ≡ true
 unfolding is_void
@@ -99,7 +103,19 @@ a_plain_paragraph : are_plain (more (trees.element (codes "p") [] (more (trees.t
 unfolding is_void
 a_plain_paragraph = refl
 
--- a `tbody` that begins with a row may have no tags, and one that begins with a line feed has them
+-- a `tbody` that begins with a row may have no tags, and stands last in a table
+rows_in_a_table : are_plain (more (trees.element (codes "table") [] (more (trees.element (codes "tbody") []
+    (more (trees.element (codes "tr") [] none) none)) none)) none) ≡ true
+unfolding is_void
+rows_in_a_table = refl
+
+rows_before_a_caption : are_plain (more (trees.element (codes "table") [] (more (trees.element (codes "tbody") []
+    (more (trees.element (codes "tr") [] none) none)) (more (trees.element (codes "caption") [] none) none))) none)
+    ≡ false
+unfolding is_void
+rows_before_a_caption = refl
+
+-- elsewhere it isn't plain, and one that begins with a line feed has its tags
 a_body_of_rows : are_plain (more (trees.element (codes "tbody") []
     (more (trees.element (codes "tr") [] none) none)) none) ≡ false
 unfolding is_void
@@ -124,6 +140,15 @@ a_style_in_the_body : html5_document false (codes "a<style><b></style>")
     (more (trees.element (codes "style") [] (more (trees.text (codes "<b>")) none)) none)))
 unfolding html5_document block_rule formatting_rule phrasing_rule text_end_rule
 a_style_in_the_body = refl
+
+-- a table with a caption and rows whose section has no tags
+bare_rows : html5_document false (codes "<table><caption>a</caption><tr><td>b</td></tr></table>")
+    ≡ document_items (skeleton (more (trees.element (codes "table") []
+    (more (trees.element (codes "caption") [] (more (trees.text (codes "a")) none))
+    (more (trees.element (codes "tbody") [] (more (trees.element (codes "tr") [] (more (trees.element (codes "td") []
+    (more (trees.text (codes "b")) none)) none)) none)) none))) none))
+unfolding html5_document block_rule formatting_rule phrasing_rule text_end_rule
+bare_rows = refl
 
 -- a table in a list item, with lines between its parts
 a_table_in_a_list : html5_document false

@@ -44,7 +44,8 @@ use Rattle.htmd_law_html5.proofs.StrictLaid.{plain_is_content}
 use Rattle.htmd_law_html5.proofs.StrictRules.{InContext}
 use Rattle.htmd_law_html5.proofs.StrictModes.{in_flow}
 use Rattle.htmd_law_html5.proofs.StrictThrough.{Through, Parts, parts}
-use Rattle.htmd_law_html5.proofs.StrictBuilt.{FitsForest, forest_built}
+use Rattle.htmd_law_html5.proofs.StrictHeld.{FitsForest}
+use Rattle.htmd_law_html5.proofs.StrictBuilt.{forest_built}
 use Rattle.htmd_law_html5.proofs.StrictPages.{fits_apart, forest_depth, plain_is_simple, forest_fits, in_step, root}
 use Rattle.htmd_law_html5.proofs.StrictPages.{page_laid}
 use Rattle.htmd_grammar.specs.Rules.{project}

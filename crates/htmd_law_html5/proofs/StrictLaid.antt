@@ -1,25 +1,32 @@
 -- The nodes of trees are laid out as the items of the trees.
-use Rattle.std.proofs.Common.{None, max, ◌≤◌, ◌≡◌, ℕ, zero, suc, ◌+◌, ◌<◌, Bool, true, false, ◌&&◌, ◌||◌, List, [], ◌∷◌}
+use Rattle.std.proofs.Common.{None, max, ◌≤◌, ◌≡◌, ℕ, zero, suc, ◌+◌, ◌<◌, Bool, true, false, ◌&&◌, ◌||◌, List}
+use Rattle.std.proofs.Common.{[], ◌∷◌}
 use Rattle.std.proofs.Common.{◌++◌}
 use Rattle.std.proofs.Common.{map, length, refl, sym, ap, ◌∙◌, arith, append_assoc, length-append}
-use Rattle.std.specs.Prelude.{◌==◌}
-use Rattle.std.proofs.lemmas.Bool.{and_parts, eq-eqb}
+use Rattle.std.specs.Prelude.{◌==◌, if◌then◌else◌}
+use Rattle.htmd_lexical.proofs.Cases.{test}
+use Rattle.std.proofs.lemmas.Bool.{and_parts, and_from, eq-eqb}
 use Rattle.std.proofs.lemmas.Bool.Decides.{nat_tests}
 use Rattle.std.proofs.lemmas.List.{append-nil, get_or_append_left, get_or_at, length-map, map-append, set_at}
 use Rattle.htmd_lexical.specs.AttributePairs.{AttributePair}
 use Rattle.htmd_values.specs.ValueTrees.{ValueTree, ValueForest, none, more, document, doctype, text}
 use Rattle.htmd_values.specs.ValueTrees.{comment, element}
-use Rattle.htmd_nodes.specs.Items.{Data, text_node, comment_node, element_node, Item, document_item, depth_at, new_item}
+use Rattle.htmd_nodes.specs.Items.{Data, text_node, comment_node, element_node, Item, document_item, depth_at}
+use Rattle.htmd_nodes.specs.Items.{new_item}
 use Rattle.htmd_nodes.specs.Layout.{size, sizes, item_under, tree_items, forest_items}
 use Rattle.htmd_nodes.proofs.LayoutLemmas.{item_at-middle, length-tree_items}
 use Rattle.htmd_html5_state.specs.Names.{ElementNameValue, html, name_of_text, text_of_name, text_of_element_name}
 use Rattle.htmd_html5_state.specs.Nodes.{text_of, NodeValue, kind_at, with_kind}
-use Rattle.htmd_html5.specs.Layout.{next_text, next_texts, after_next_texts, parent_of_children, Coming, coming, Layout}
+use Rattle.htmd_html5.specs.Layout.{next_text, next_texts, after_next_texts, parent_of_children, Coming, coming}
+use Rattle.htmd_html5.specs.Layout.{Layout}
 use Rattle.htmd_html5.specs.Layout.{is_deepest, with_kind_of, without_node, put_node, layout_within}
 use Rattle.htmd_law_html5.specs.StrictTrees.{is_plain_element, is_plain_body, is_plain_tree, are_plain}
-use Rattle.htmd_law_html5.proofs.StrictNodes.{is_text, numbers, node, tree_nodes, forest_nodes, tree_count, kind_after}
+use Rattle.htmd_law_html5.specs.StrictTrees.{are_plain_table}
+use Rattle.htmd_law_html5.proofs.StrictNodes.{is_text, numbers, node, tree_nodes, forest_nodes, tree_count}
+use Rattle.htmd_law_html5.proofs.StrictNodes.{kind_after}
 use Rattle.htmd_law_html5.proofs.StrictNodes.{children_after}
-use Rattle.htmd_grammar.specs.Grammar.{Apart}
+use Rattle.htmd_grammar.specs.Grammar.{Apart, begins_with_row}
+use Rattle.htmd_grammar.specs.Nesting.{is_table, is_tbody}
 use Rattle.htmd_law_html5.proofs.StrictOpen.{name_kept}
 use Rattle.htmd_html5_state.specs.Nodes as documents
 
@@ -86,8 +93,31 @@ abbrev mutual
 mutual
   plain_tree_is_content : (t : ValueTree) → is_plain_tree t ≡ true → is_content_tree t ≡ true
   plain_tree_is_content (element n attributes children) e =
-      plain_is_content children (and_parts (is_plain_element n || is_plain_body n children) _ e).1
+      let inner = if is_table n then are_plain_table children else are_plain children in
+      let g = (and_parts (is_plain_element n || is_plain_body n children) inner e).1 in
+      test (is_table n) (λ t. plain_table_is_content children (rw t at g))
+      (λ t. plain_is_content children (rw t at g))
   plain_tree_is_content _ e = cc
+
+  plain_table_is_content : (ts : ValueForest) → are_plain_table ts ≡ true → are_content ts ≡ true
+  plain_table_is_content none e = refl
+  plain_table_is_content (more (element n attributes children) none) e =
+      let inner = if is_table n then are_plain_table children else are_plain children in
+      let whole : are_content children ≡ true =
+      test (is_plain_tree (element n attributes children))
+      (λ t. let g = (and_parts (is_plain_element n || is_plain_body n children) inner t).1 in
+      test (is_table n) (λ q. plain_table_is_content children (rw q at g))
+      (λ q. plain_is_content children (rw q at g)))
+      (λ t. let r = rw t at e in
+      plain_is_content children (and_parts (is_tbody n && begins_with_row children) (are_plain children) r).1) in
+      and_from (are_content children) true whole refl
+  plain_table_is_content (more (document children) none) e = absurd (cc)
+  plain_table_is_content (more doctype none) e = absurd (cc)
+  plain_table_is_content (more _ none) e = refl
+  plain_table_is_content (more t (more u us)) e =
+      let k = and_parts (is_plain_tree t) (are_plain_table (more u us)) e in
+      and_from (is_content_tree t) (are_content (more u us)) (plain_tree_is_content t k.0)
+      (plain_table_is_content (more u us) k.1)
 
   pub plain_is_content : (ts : ValueForest) → are_plain ts ≡ true → are_content ts ≡ true
   plain_is_content none e = refl

@@ -1,6 +1,7 @@
 -- The mode in which the content of an element of the strict grammar is read, and names that it reads as the body does.
-use Rattle.std.proofs.Common.{◌≡◌, ◌⊎◌, ℕ, Bool, true, false, not, ◌||◌, if◌then◌else◌, List, [], ◌∷◌, None, refl, sym}
-use Rattle.std.proofs.Common.{ap, ◌∙◌, codes, rules}
+use Rattle.std.proofs.Common.{◌≡◌, ◌⊎◌, ℕ, Bool, true, false, not, ◌||◌, if◌then◌else◌, List, [], ◌∷◌, None, refl}
+use Rattle.std.proofs.Common.{sym}
+use Rattle.std.proofs.Common.{ap, ◌∙◌, codes, rules, inl, inr}
 use Rattle.std.specs.List.{list_all}
 use Rattle.std.proofs.lemmas.Bool.{and_parts, not-true, true≢false}
 use Rattle.htmd_lexical.proofs.Cases.{test}
@@ -19,13 +20,14 @@ use Rattle.htmd_html5_state.specs.State.{StateValue}
 use Rattle.htmd_html5_state.specs.declared.names.TagName.{TagName}
 use Rattle.htmd_html5_state.specs.declared.modes.InsertionMode.{InsertionMode}
 use Rattle.htmd_html5_state.specs.declared.modes.InsertionMode.TheVariants.{InBody, InTable, InTableBody, InRow}
-use Rattle.htmd_html5_state.specs.declared.modes.InsertionMode.TheVariants.{InCell}
+use Rattle.htmd_html5_state.specs.declared.modes.InsertionMode.TheVariants.{InCell, InCaption}
 use Rattle.htmd_html5.specs.BodyEnds.{end_in_body}
 use Rattle.htmd_html5.specs.BodyStarts.{start_in_body}
 use Rattle.htmd_html5.specs.InCell.{start_in_cell, end_in_cell, leaves_cell}
 use Rattle.htmd_html5.specs.Outcomes.{done}
 use Rattle.htmd_html5.specs.Tokens.{StartTagValue}
-use Rattle.htmd_html5.proofs.TableTagLemmas.{cell_other_start}
+use Rattle.htmd_html5.proofs.TableTagLemmas.{cell_other_start, caption_other_start}
+use Rattle.htmd_html5.specs.InCaption.{start_in_caption, end_in_caption}
 use Rattle.htmd_law_html5.specs.StrictTrees.{is_unknown_name, ordinary_names, formatting_names, block_names}
 use Rattle.htmd_law_html5.specs.StrictTrees.{heading_names, other_names, is_plain_name, table_names, is_plain_element}
 use Rattle.htmd_law_html5.specs.StrictTrees.{is_plain_body}
@@ -38,7 +40,7 @@ use Rattle.htmd_html5_state.specs.declared.names.TagName.TheVariants as tags
 
 -- where the rules of the body are followed
 abbrev pub IsFlow : InsertionMode → Type 0
-IsFlow m = (m ≡ InBody) ⊎ (m ≡ InCell)
+IsFlow m = (m ≡ InBody) ⊎ ((m ≡ InCell) ⊎ (m ≡ InCaption))
 
 -- that inside an element with this name
 pub data ModeIn (n : List ℕ) (m : InsertionMode) : Type 0 where
@@ -142,7 +144,7 @@ part_tags n e =
               (refl, refl, λ z. refl),
               (
                 (refl, refl, λ z. refl),
-                ((refl, refl, λ z. refl), tt),
+                ((refl, refl, λ z. refl), ((refl, refl, λ z. refl), tt)),
               ),
             ),
           ),
@@ -152,12 +154,14 @@ part_tags n e =
 
 -- of the parts only these are plain
 pub section_plain : (n : List ℕ) (children : ValueForest) → is_table_part n ≡ true
-    → (is_plain_element n || is_plain_body n children) ≡ true → holds_rows n ≡ true
+    → (is_plain_element n || is_plain_body n children) ≡ true
+    → (holds_rows n ≡ true) ⊎ (n ≡ codes "caption")
 unfolding is_void
 section_plain n children r e =
-    among_each (λ m. (is_plain_element m || is_plain_body m children) ≡ true → holds_rows m ≡ true)
+    among_each (λ m. (is_plain_element m || is_plain_body m children) ≡ true
+    → (holds_rows m ≡ true) ⊎ (m ≡ codes "caption"))
     (codes "caption" ∷ codes "colgroup" ∷ codes "thead" ∷ codes "tbody" ∷ codes "tfoot" ∷ []) n r
-    (λ f. absurd (cc), (λ f. absurd (cc), (λ f. refl, (λ f. refl, (λ f. refl, tt))))) e
+    (λ f. inr refl, (λ f. absurd (cc), (λ f. inl refl, (λ f. inl refl, (λ f. inl refl, tt))))) e
 
 pub plain_in_flow : (n : List ℕ) (children : ValueForest) → is_part n ≡ false
     → (is_plain_element n || is_plain_body n children) ≡ true → is_plain_element n ≡ true
@@ -172,7 +176,7 @@ table_alone n e o =
       λ k. refl,
       (
         λ k. absurd (cc),
-        (λ k. absurd (cc), (λ k. absurd (cc), (λ k. absurd (cc), (λ k. absurd (cc), tt)))),
+        (λ k. absurd (cc), (λ k. absurd (cc), (λ k. absurd (cc), (λ k. absurd (cc), (λ k. absurd (cc), tt))))),
       ),
     )
     o
@@ -231,6 +235,28 @@ starts_in_cell n e x s = by_name (name_of_text n) (ap is_part (name_kept n) ∙ 
     by_name (other u) f = refl
     by_name (known t) f =
         test (leaves_cell t) (λ k. absurd (true≢false (sym (leaving t k) ∙ f))) (λ k. cell_other_start t x s k)
+
+pub ends_in_caption : (n : List ℕ) → flows n ≡ true → (s : StateValue)
+    → end_in_caption (name_of_text n) s ≡ end_in_body (name_of_text n) s
+ends_in_caption n e s = by_name (name_of_text n) (not-true (sets_mode (name_of_text n)) e)
+  where
+    by_name : (name : NameValue) → sets_mode name ≡ false → end_in_caption name s ≡ end_in_body name s
+    by_name (known t) f = search rules
+    by_name (other u) f = refl
+
+pub starts_in_caption : (n : List ℕ) → is_part n ≡ false → (x : StartTagValue) (s : StateValue)
+    → start_in_caption (name_of_text n) x s ≡ done (start_in_body x s)
+starts_in_caption n e x s = by_name (name_of_text n) (ap is_part (name_kept n) ∙ e)
+  where
+    leaving : (t : TagName) → leaves_cell t ≡ true → is_part (spelling t) ≡ true
+    leaving tags.Td e = refl
+    leaving _ e = cc
+
+    by_name : (name : NameValue) → is_part (text_of_name name) ≡ false
+        → start_in_caption name x s ≡ done (start_in_body x s)
+    by_name (other u) f = refl
+    by_name (known t) f =
+        test (leaves_cell t) (λ k. absurd (true≢false (sym (leaving t k) ∙ f))) (λ k. caption_other_start t x s k)
 
 pub plain_flows : (n : List ℕ) → is_plain_name n ≡ true → flows n ≡ true
 plain_flows n e =

@@ -2,7 +2,8 @@
 use Rattle.std.proofs.Common.{◌≡◌, ℕ, zero, suc, ◌+◌, ◌≤◌, Bool, true, false, not, ◌&&◌, ◌||◌, List, [], ◌∷◌, ◌++◌}
 use Rattle.std.proofs.Common.{length}
 use Rattle.std.proofs.Common.{map, None, refl, sym, ap, ◌∙◌, arith, inl, inr, codes, subst}
-use Rattle.std.proofs.lemmas.Bool.{and_parts, not-true}
+use Rattle.std.proofs.lemmas.Bool.{and_parts, and_from, not-true, or_right}
+use Rattle.std.specs.Prelude.{if◌then◌else◌}
 use Rattle.std.proofs.lemmas.List.{append-nil}
 use Rattle.htmd_lexical.proofs.Cases.{test}
 use Rattle.htmd_lexical.specs.AttributePairs.{AttributePair}
@@ -11,10 +12,10 @@ use Rattle.htmd_values.specs.ValueTrees.{comment, element}
 use Rattle.htmd_lexical.specs.CharacterClasses.{is_among, lacks}
 use Rattle.htmd_values.specs.Serialisation.{is_void}
 use Rattle.htmd_grammar.specs.Rules.{Rules, project}
-use Rattle.htmd_grammar.specs.Grammar.{ReadsTree, ReadsForest}
+use Rattle.htmd_grammar.specs.Grammar.{ReadsTree, ReadsForest, begins_with_row}
 use Rattle.htmd_grammar.specs.Nesting.{Context, parent_name, is_allowed, is_outside, fits_table, fits_select}
 use Rattle.htmd_grammar.specs.Nesting.{fits_open_elements, fits_lists, closes_paragraph, excludes_itself, is_optgroup}
-use Rattle.htmd_grammar.specs.Nesting.{is_heading, is_open, is_met_before}
+use Rattle.htmd_grammar.specs.Nesting.{is_heading, is_open, is_met_before, is_table, is_tbody}
 use Rattle.htmd_grammar.specs.RawContent.{holds_text_alone, content_of}
 use Rattle.htmd_grammar.specs.HtmlDocuments.{below_body, skeleton}
 use Rattle.htmd_grammar.proofs.NestingLemmas.{allowed_parts, one_name}
@@ -34,8 +35,9 @@ use Rattle.htmd_html5.specs.Html5Documents.{next_read, after_token, read_within,
 use Rattle.htmd_html5.specs.Layout.{coming, Layout, document_of, layout_within}
 use Rattle.htmd_law_html5.specs.StrictReferences.{IsUnambiguous}
 use Rattle.htmd_law_html5.specs.StrictTokens.{content_after, tag_named, is_simple_tree, is_simple}
+use Rattle.htmd_law_html5.specs.StrictTokens.{is_simple_table, may_be_implied}
 use Rattle.htmd_law_html5.specs.StrictTrees.{is_plain_element, is_plain_body, is_plain_tree, are_plain, text_names}
-use Rattle.htmd_law_html5.specs.StrictTrees.{PlainPagesAgree}
+use Rattle.htmd_law_html5.specs.StrictTrees.{are_plain_table, PlainPagesAgree}
 use Rattle.htmd_law_html5.proofs.StrictCuts.{lacks_cut}
 use Rattle.htmd_law_html5.proofs.StrictPlainTexts.{plain_text, content_lacks}
 use Rattle.htmd_law_html5.proofs.StrictTokenCuts.{read, lines_same}
@@ -50,7 +52,8 @@ use Rattle.htmd_law_html5.proofs.StrictSets.{plain_aside, text_alone}
 use Rattle.htmd_law_html5.proofs.StrictRules.{InContext, Flows, Fits, end_of_file_fed}
 use Rattle.htmd_law_html5.proofs.StrictModes.{in_flow}
 use Rattle.htmd_law_html5.proofs.StrictOnlyText.{IsOneText}
-use Rattle.htmd_law_html5.proofs.StrictBuilt.{FitsTree, FitsForest, forest_built}
+use Rattle.htmd_law_html5.proofs.StrictHeld.{FitsTree, FitsForest}
+use Rattle.htmd_law_html5.proofs.StrictBuilt.{forest_built}
 use Rattle.htmd_law_html5.proofs.StrictThrough.{Parts, parts}
 use Rattle.htmd_html5_state.specs.Nodes as documents
 
@@ -59,10 +62,34 @@ use Rattle.htmd_html5_state.specs.Nodes as documents
 mutual
   plain_tree_is_simple : (t : ValueTree) → is_plain_tree t ≡ true → is_simple_tree t ≡ true
   plain_tree_is_simple (element n attributes children) e =
-      let g = and_parts (is_plain_element n || is_plain_body n children) (are_plain children) e in
+      let inner = if is_table n then are_plain_table children else are_plain children in
+      let g = and_parts (is_plain_element n || is_plain_body n children) inner e in
       let a = plain_aside n children g.0 in
-      rw (a.0, a.1, plain_is_simple children g.1) refl
+      test (is_table n)
+      (λ t. rw (a.0, a.1, t, plain_table_is_simple children (rw t at g.1)) refl)
+      (λ t. rw (a.0, a.1, t, plain_is_simple children (rw t at g.1)) refl)
   plain_tree_is_simple _ e = refl
+
+  plain_table_is_simple : (ts : ValueForest) → are_plain_table ts ≡ true → is_simple_table ts ≡ true
+  plain_table_is_simple none e = refl
+  plain_table_is_simple (more (element n attributes children) none) e =
+      test (is_plain_tree (element n attributes children))
+      (λ t. let inner = if is_table n then are_plain_table children else are_plain children in
+      let g = and_parts (is_plain_element n || is_plain_body n children) inner t in
+      let a = plain_aside n children g.0 in
+      test (is_table n)
+      (λ q. rw (a.0, a.1, q, plain_table_is_simple children (rw q at g.1)) refl)
+      (λ q. rw (a.0, a.1, q, plain_is_simple children (rw q at g.1)) refl))
+      (λ t. let r = rw t at e in
+      let g = and_parts (is_tbody n && begins_with_row children) (are_plain children) r in
+      or_right (is_simple_tree (element n attributes children))
+      (may_be_implied n children && is_simple children)
+      (and_from (may_be_implied n children) (is_simple children) g.0 (plain_is_simple children g.1)))
+  plain_table_is_simple (more _ none) e = refl
+  plain_table_is_simple (more t (more u us)) e =
+      let k = and_parts (is_plain_tree t) (are_plain_table (more u us)) e in
+      and_from (is_simple_tree t) (is_simple_table (more u us)) (plain_tree_is_simple t k.0)
+      (plain_table_is_simple (more u us) k.1)
 
   pub plain_is_simple : (ts : ValueForest) → are_plain ts ≡ true → is_simple ts ≡ true
   plain_is_simple none e = refl

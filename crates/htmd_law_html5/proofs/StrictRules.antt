@@ -30,7 +30,8 @@ use Rattle.htmd_html5_state.proofs.AppendedTextsLemmas.{AppendsText, appends-rec
 use Rattle.htmd_html5.specs.AtOnce.{is_body_mode, is_without_null, takes_at_once, put_at_once}
 use Rattle.htmd_html5.specs.Outcomes.{Outcome, done}
 use Rattle.htmd_html5.specs.SharedRules.{no_frameset}
-use Rattle.htmd_html5.specs.BodyStarts.{start_rule, block_rule, formatting_rule, phrasing_rule, start_by, start_in_body}
+use Rattle.htmd_html5.specs.BodyStarts.{start_rule, block_rule, formatting_rule, phrasing_rule, start_by}
+use Rattle.htmd_html5.specs.BodyStarts.{start_in_body}
 use Rattle.htmd_html5.specs.BodyStarts.{close_heading, forget, close_no_break, is_hidden}
 use Rattle.htmd_html5.specs.InBody.{end_of_file_in_body, in_body}
 use Rattle.htmd_html5.specs.InCell.{in_cell}
@@ -52,7 +53,8 @@ use Rattle.htmd_law_html5.proofs.StrictNames.{input, separator, in_head, no_brea
 use Rattle.htmd_law_html5.proofs.StrictNames.{formatting, anchor, paragraph, block, heading, list_item, part}
 use Rattle.htmd_law_html5.proofs.StrictSets.{one_spelled, part_names, heading_has}
 use Rattle.htmd_law_html5.proofs.StrictModes.{IsFlow, ModeIn, in_table, in_section, in_row, in_flow, flow_fits}
-use Rattle.htmd_law_html5.proofs.StrictModes.{starts_in_cell}
+use Rattle.htmd_law_html5.proofs.StrictModes.{starts_in_cell, starts_in_caption}
+use Rattle.htmd_html5.specs.InCaption.{in_caption}
 use Rattle.htmd_grammar.specs.Nesting as nesting
 use Rattle.htmd_html5_state.specs.declared.names.TagName.TheVariants as tags
 use Rattle.htmd_html5.specs.Tokens as construction
@@ -137,9 +139,10 @@ module _ (p : List ℕ) (c : List (List ℕ)) (s : StateValue) (h : InContext (p
   by_mode token e = ap (λ m. in_mode m token s) e
 
   pub by_flow : (token : construction.TokenValue) {o : Outcome} → IsFlow s.mode → in_body token s ≡ o
-      → in_cell token s ≡ o → in_mode s.mode token s ≡ o
-  by_flow token (inl e) b k = by_mode token e ∙ b
-  by_flow token (inr e) b k = by_mode token e ∙ k
+      → in_cell token s ≡ o → in_caption token s ≡ o → in_mode s.mode token s ≡ o
+  by_flow token (inl e) b k l = by_mode token e ∙ b
+  by_flow token (inr (inl e)) b k l = by_mode token e ∙ k
+  by_flow token (inr (inr e)) b k l = by_mode token e ∙ l
 
   pub comment_fed : (u : List ℕ) → feed (comment u) s ≡ insert_comment u s
   comment_fed u =
@@ -149,7 +152,7 @@ module _ (p : List ℕ) (c : List (List ℕ)) (s : StateValue) (h : InContext (p
       by_case (in_table q e) = by_mode (construction.comment u) e
       by_case (in_section q e) = by_mode (construction.comment u) e
       by_case (in_row q e) = by_mode (construction.comment u) e
-      by_case (in_flow q e) = by_flow (construction.comment u) e refl refl
+      by_case (in_flow q e) = by_flow (construction.comment u) e refl refl refl
 
   -- ---- start tags
 
@@ -215,7 +218,8 @@ module _ (p : List ℕ) (c : List (List ℕ)) (s : StateValue) (h : InContext (p
   module _ (w : Flows p s) where
     pub end_of_file_fed : feed end_of_file s ≡ s
     end_of_file_fed =
-        fed construction.end_of_file s refl (by_flow construction.end_of_file w.1 nothing_ended nothing_ended)
+        fed construction.end_of_file s refl
+        (by_flow construction.end_of_file w.1 nothing_ended nothing_ended nothing_ended)
       where
         nothing_ended : end_of_file_in_body s ≡ done s
         nothing_ended = rw h.no_template refl
@@ -227,7 +231,8 @@ module _ (p : List ℕ) (c : List (List ℕ)) (s : StateValue) (h : InContext (p
       where
         body_mode : IsFlow s.mode → is_body_mode s.mode ≡ true
         body_mode (inl e) = rw e refl
-        body_mode (inr e) = rw e refl
+        body_mode (inr (inl e)) = rw e refl
+        body_mode (inr (inr e)) = rw e refl
 
     pub text_fed : (u : List ℕ) → is_without_null u ≡ true → feed (text u) s ≡ put_at_once u s
     text_fed u e =
@@ -241,7 +246,8 @@ module _ (p : List ℕ) (c : List (List ℕ)) (s : StateValue) (h : InContext (p
         let tag : construction.StartTagValue = named (tag_named n attributes slash) in
         let token : construction.TokenValue = construction.start_tag tag in
         fed token (start_in_body tag s) (ap not (goes token))
-        (by_flow token w.1 refl (starts_in_cell n (flow_fits p n w.0 f.table) tag s))
+        (by_flow token w.1 refl (starts_in_cell n (flow_fits p n w.0 f.table) tag s)
+        (starts_in_caption n (flow_fits p n w.0 f.table) tag s))
 
     -- a tag with the rules of another one
     by_rule : {rule : _} (n : List ℕ) → Fits (p ∷ c) n → (tag : TagName) → name_of_text n ≡ known tag

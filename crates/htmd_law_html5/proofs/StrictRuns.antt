@@ -1,7 +1,8 @@
 -- The tokens of a text of the strict grammar are those of its trees.
 use Rattle.std.proofs.Common.{◌≡◌, ◌≢◌, ℕ, Bool, true, false, not, List, [], ◌∷◌, ◌++◌, length, drop, Some, refl}
 use Rattle.std.proofs.Common.{sym, ap, ◌∙◌, arith, inl, inr, codes, subst, append_assoc}
-use Rattle.std.specs.Prelude.{◌==◌}
+use Rattle.std.specs.Bool.{MatchBool}
+use Rattle.std.specs.Prelude.{◌==◌, ◌⊎◌, if◌then◌else◌}
 use Rattle.std.proofs.lemmas.Bool.{and_parts, not-true, eqb-true}
 use Rattle.std.proofs.lemmas.List.{append-nil}
 use Rattle.htmd_lexical.proofs.Cases.{test}
@@ -9,15 +10,15 @@ use Rattle.htmd_lexical.specs.AttributePairs.{AttributePair}
 use Rattle.htmd_values.specs.ValueTrees.{ValueTree, ValueForest, none, more, document, doctype, text}
 use Rattle.htmd_values.specs.ValueTrees.{comment, element}
 use Rattle.htmd_lexical.specs.CharacterClasses.{first_is, lacks, up_to}
-use Rattle.htmd_grammar.specs.Grammar.{ReadsForest, reads}
-use Rattle.htmd_grammar.specs.Nesting.{Context, is_outside}
-use Rattle.htmd_grammar.specs.RawContent.{holds_text_alone, ends_text, begins_markup, drops_line_feed}
+use Rattle.htmd_grammar.specs.Grammar.{ReadsForest, ReadsTree, begins_with_row, may_end_rows, reads}
+use Rattle.htmd_grammar.specs.Nesting.{Context, is_outside, is_table, is_tbody}
+use Rattle.htmd_grammar.specs.RawContent.{holds_text_alone, ends_text, begins_markup, drops_line_feed, content_of}
 use Rattle.htmd_grammar.specs.Rules.{named_characters, project}
 use Rattle.htmd_grammar.specs.References.{decode, after_line_feed}
 use Rattle.htmd_values.specs.Serialisation.{is_void}
 use Rattle.htmd_grammar.specs.Tags.{IsStartTag, IsEndTag}
 use Rattle.htmd_grammar.specs.HtmlDocuments.{above_body, below_body}
-use Rattle.htmd_grammar.proofs.NestingLemmas.{allowed_parts}
+use Rattle.htmd_grammar.proofs.NestingLemmas.{allowed_parts, one_name}
 use Rattle.htmd_grammar.proofs.Completeness.{end_tag_stops}
 use Rattle.htmd_grammar.proofs.TreeTexts.{IsTextTree}
 use Rattle.htmd_html5_tokens.specs.Tokens.{TokenValue, start_tag, end_tag}
@@ -28,6 +29,8 @@ use Rattle.htmd_grammar.proofs.FrontsLemmas.{content_plain}
 use Rattle.htmd_law_html5.specs.StrictReferences.{outside, in_tag, IsUnambiguousAt, IsUnambiguous}
 use Rattle.htmd_law_html5.specs.StrictTokens.{content_in, tag_named, SpellsTree, SpellsForest, with_text_token}
 use Rattle.htmd_law_html5.specs.StrictTokens.{after_feed, content_tokens, is_set_aside, is_simple_tree, is_simple}
+use Rattle.htmd_law_html5.specs.StrictTokens.{SpellsTable, SpellsRows, may_be_implied, is_simple_table}
+use Rattle.htmd_law_html5.specs.StrictTokens.{is_simple_body}
 use Rattle.htmd_law_html5.specs.StrictTokens.{TokensAgree}
 use Rattle.htmd_law_html5.proofs.StrictCuts.{unambiguous_back, unambiguous_in_tag, unambiguous_past}
 use Rattle.htmd_law_html5.proofs.StrictCuts.{unambiguous_inside, unambiguous_outside, content_place}
@@ -38,17 +41,33 @@ use Rattle.htmd_law_html5.proofs.StrictRawTexts.{normal_content, void_content, I
 use Rattle.htmd_law_html5.proofs.StrictRawTexts.{raw_keeps, raw_children, stop_same, raw_text_next, raw_end_next}
 use Rattle.htmd_law_html5.proofs.StrictLineFeeds.{kept_begins, feed_case, dropped_feed, Feed, feed_text}
 use Rattle.htmd_law_html5.proofs.StrictSteps.{Run, here, onward, joined, from_content, from_text, all_read, Made}
-use Rattle.htmd_law_html5.proofs.StrictSteps.{shorter, one_token, TreeRun, ForestRun, tag_filled, end_filled}
+use Rattle.htmd_law_html5.proofs.StrictSteps.{shorter, one_token, TreeRun, ForestRun, TableRun, tag_filled}
+use Rattle.htmd_law_html5.proofs.StrictSteps.{end_filled}
 use Rattle.htmd_law_html5.proofs.StrictSteps.{plain_text, text_run, comment_run, simple_parts, text_ending}
 use Rattle.htmd_law_html5.proofs.StrictSteps.{not_implied, unambiguous_after}
 use Rattle.htmd_html5_tokens.specs.Tokens as tokens
 use Rattle.htmd_html5_tokens.specs.NextToken as next
 
+table_plain : (z : Bool) → holds_text_alone z (codes "table") ≡ false
+table_plain true = refl
+table_plain false = refl
+
+section_plain : (z : Bool) → holds_text_alone z (codes "tbody") ≡ false
+section_plain true = refl
+section_plain false = refl
+
 module _ (z : Bool) where
   -- ---- elements
 
+  -- the tokens of its content
+  abbrev Held : List ℕ → ValueForest → List TokenValue → Type 0
+  Held n ks xs = MatchBool (is_table n) (SpellsTable ks xs) (SpellsForest ks (content_tokens n xs))
+
   nothing_content : (n : List ℕ) → content_tokens n [] ≡ []
   nothing_content n = test (drops_line_feed n) (λ t. rw t refl) (λ t. rw t refl)
+
+  nothing_held : (n : List ℕ) → Held n none []
+  nothing_held n = test (is_table n) (λ t. rw t refl) (λ t. rw t (nothing_content n))
 
   void_run : (n tag rest : List ℕ) (attributes : List AttributePair) → IsStartTag named_characters tag n attributes
       → is_void n ≡ true → is_outside n ≡ false → IsUnambiguous (tag ++ rest)
@@ -57,7 +76,7 @@ module _ (z : Bool) where
       let r = start_read tag n rest attributes h (unambiguous_in_tag (tag ++ rest) k) in
       let now = normal_content z n (void_content z n v) o in (
         start_tag (tag_named n attributes r.0) ∷ [],
-        (r.0, [], [], refl, nothing_content n, rw v (refl, refl)),
+        (r.0, [], [], refl, nothing_held n, rw v (refl, refl)),
         one_token z (start_tag (tag_named n attributes r.0)) tag rest (tag_filled z tag n attributes h) r.1 refl now,
       )
 
@@ -65,6 +84,15 @@ module _ (z : Bool) where
   abbrev Closed : List ℕ → ValueForest → List ℕ → List ℕ → Type 0
   Closed n ks s rest = (xs : List TokenValue) × SpellsForest ks (content_tokens n xs)
       × Run z (content_in z n) s (xs ++ (end_tag (tag_named n [] false) ∷ [])) Normal rest
+
+  abbrev HeldRun : List ℕ → ValueForest → List ℕ → List ℕ → Type 0
+  HeldRun n ks s rest = (xs : List TokenValue) × Held n ks xs
+      × Run z (content_in z n) s (xs ++ (end_tag (tag_named n [] false) ∷ [])) Normal rest
+
+  -- that of no table
+  held_run : (n : List ℕ) (ks : ValueForest) (s rest : List ℕ) → is_table n ≡ false → Closed n ks s rest
+      → HeldRun n ks s rest
+  held_run n ks s rest t r = (r.0, rw t r.1, r.2)
 
   normal_closed : (n : List ℕ) (ks : ValueForest) → ForestRun z ks → (c : Context) (inner end rest : List ℕ)
       → ReadsForest (project z) (n ∷ c) true ks inner → IsEndTag end n → drops_line_feed n ≡ false
@@ -149,7 +177,7 @@ module _ (z : Bool) where
   begins_no_feed (more (text u) ts) p c last s rest h e o k st a =
       let q = ap (λ (y : List ℕ). y ++ rest) h.2 ∙ append_assoc h.0 h.1 rest in
       let i = subst IsUnambiguous q k in
-      let follows = text_ending z (text u) ts p c last h.1 rest refl h.3 h.5 o (unambiguous_back h.0 (h.1 ++ rest) i) st
+      let follows = text_ending z (text u) ts p c last h.1 rest refl h.3 h.5 (unambiguous_back h.0 (h.1 ++ rest) i) st
       in
       let this = unambiguous_before outside h.0 (h.1 ++ rest) follows i in
       let d : decode named_characters 0 h.0 ≡ Some u = rw (plain_text z p e) at (h.4).2 in
@@ -201,7 +229,7 @@ module _ (z : Bool) where
       ap (λ (y : List ℕ). b ∷ y) (ap (λ (y : List ℕ). (w ++ y) ++ x) h.2
       ∙ ap (λ (y : List ℕ). y ++ x) (sym (append_assoc w h.0 h.1)) ∙ append_assoc (w ++ h.0) h.1 x) in
       let i = subst IsUnambiguous q k in
-      let follows = text_ending z (text u) ts n c true h.1 x refl h.3 h.5 o (unambiguous_back front (h.1 ++ x) i) st in
+      let follows = text_ending z (text u) ts n c true h.1 x refl h.3 h.5 (unambiguous_back front (h.1 ++ x) i) st in
       let d : decode named_characters 0 h.0 ≡ Some u = rw (plain_text z n e) at (h.4).2 in
       let same : (y : List ℕ) → begins_markup y ≡ ends_text z n y = λ y. rw e refl in
       let l : up_to begins_markup h.0 ≡ h.0 = stop_same begins_markup (ends_text z n) same h.0 ∙ (h.4).1 in
@@ -220,7 +248,7 @@ module _ (z : Bool) where
       with_first (b ∷ u) ts xs f h = (tokens.text (b ∷ u) ∷ [], xs, refl, refl, h)
   line_dropped n (more t ts) ih tail c b w r x rest f h e o k st =
       line_alone n (more t ts) ih c b w r x rest f h e o k
-      (text_ending z (text []) (more t ts) n c true r x refl tt h o (after_piece b w r x k) st) st
+      (text_ending z (text []) (more t ts) n c true r x refl tt h (after_piece b w r x k) st) st
 
   feed_closed : (n : List ℕ) (ks : ValueForest) → ForestRun z ks → Tail ks → (c : Context)
       (inner end rest : List ℕ) → ReadsForest (project z) (n ∷ c) true ks (after_line_feed [] inner)
@@ -256,7 +284,7 @@ module _ (z : Bool) where
 
   closed_run : (n tag inner end rest : List ℕ) (attributes : List AttributePair) (ks : ValueForest)
       → IsStartTag named_characters tag n attributes → is_void n ≡ false
-      → IsUnambiguous (tag ++ (inner ++ (end ++ rest))) → Closed n ks (inner ++ (end ++ rest)) rest
+      → IsUnambiguous (tag ++ (inner ++ (end ++ rest))) → HeldRun n ks (inner ++ (end ++ rest)) rest
       → Made z (SpellsTree (element n attributes ks)) (tag ++ (inner ++ end)) rest
   closed_run n tag inner end rest attributes ks h v k w =
       let r = start_read tag n (inner ++ (end ++ rest)) attributes h
@@ -270,9 +298,51 @@ module _ (z : Bool) where
             (shorter z tag (inner ++ (end ++ rest)) (tag_filled z tag n attributes h)) w.2),
       )
 
+  -- what a table holds, and its end tag
+  table_closed : (n : List ℕ) (ks : ValueForest) → TableRun z ks → (c : Context) (inner end rest : List ℕ)
+      → is_table n ≡ true → ReadsForest (project z) (n ∷ c) true ks (content_of n inner) → IsEndTag end n
+      → is_outside n ≡ false → is_simple_table ks ≡ true → IsUnambiguous (inner ++ (end ++ rest))
+      → HeldRun n ks (inner ++ (end ++ rest)) rest
+  table_closed n ks tables c inner end rest t h g o i k =
+      let name : n ≡ codes "table" = one_name (codes "table") n t in
+      let kept : drops_line_feed n ≡ false = ap drops_line_feed name in
+      let alone : holds_text_alone z n ≡ false = ap (holds_text_alone z) name ∙ table_plain z in
+      let m = unambiguous_back inner (end ++ rest) k in
+      let r = end_read end n rest g m in
+      let inside = tables n c true inner (end ++ rest)
+      (subst (ReadsForest (project z) (n ∷ c) true ks) (content_plain n inner kept) h) alone i k (inr r.1) in
+      let last = one_token z (end_tag (tag_named n [] false)) end rest (end_filled z end n g) r.0 refl refl in (
+        inside.0,
+        rw t inside.1,
+        from_content z (normal_content z n alone o) (joined z inside.2 last),
+      )
+
+  -- an element with its tags, by what runs through its content
+  tagged_run : (n : List ℕ) (attributes : List AttributePair) (ks : ValueForest) → ForestRun z ks → Tail ks
+      → TableRun z ks → (p : List ℕ) (c : Context) (tag inner end rest : List ℕ)
+      → IsStartTag named_characters tag n attributes → is_void n ≡ false → is_set_aside n ≡ false
+      → is_outside n ≡ false → (if is_table n then is_simple_table ks else is_simple ks) ≡ true
+      → ReadsForest (project z) (n ∷ (p ∷ c)) true ks (content_of n inner) → IsEndTag end n
+      → IsUnambiguous ((tag ++ (inner ++ end)) ++ rest)
+      → Made z (SpellsTree (element n attributes ks)) (tag ++ (inner ++ end)) rest
+  tagged_run n attributes ks ih tail tables p c tag inner end rest start v aside within simple h g k =
+      let q : (tag ++ (inner ++ end)) ++ rest ≡ tag ++ (inner ++ (end ++ rest)) =
+      append_assoc tag (inner ++ end) rest ∙ ap (λ (y : List ℕ). tag ++ y) (append_assoc inner end rest) in
+      let i : IsUnambiguous (tag ++ (inner ++ (end ++ rest))) = subst IsUnambiguous q k in
+      let content = unambiguous_inside tag n (inner ++ (end ++ rest)) attributes start i in
+      let j = unambiguous_outside n (inner ++ (end ++ rest)) content in
+      closed_run n tag inner end rest attributes ks start v i (test (is_table n)
+      (λ t. table_closed n ks tables (p ∷ c) inner end rest t h g within (rw t at simple) j)
+      (λ t. let o = rw t at simple in
+      held_run n ks (inner ++ (end ++ rest)) rest t (test (drops_line_feed n)
+      (λ d. feed_closed n ks ih tail (p ∷ c) inner end rest (rw d at h) g d (pre_plain z n d aside) within o j)
+      (λ d. let inside = subst (ReadsForest (project z) (n ∷ (p ∷ c)) true ks) (content_plain n inner d) h in
+      test (holds_text_alone z n) (λ x. raw_closed n ks (p ∷ c) inner end rest inside g x aside content)
+      (λ x. normal_closed n ks ih (p ∷ c) inner end rest inside g d x within o j)))))
+
   element_run : (n : List ℕ) (attributes : List AttributePair) (ks : ValueForest) → ForestRun z ks → Tail ks
-      → TreeRun z (element n attributes ks)
-  element_run n attributes ks ih tail p c last s rest h e o k st =
+      → TableRun z ks → TreeRun z (element n attributes ks)
+  element_run n attributes ks ih tail tables p c last s rest h e o k st =
       let parts = simple_parts z n attributes ks o in
       let aside = parts.0 in
       let outside = (allowed_parts z (p ∷ c) n h.0).0 in
@@ -286,19 +356,51 @@ module _ (z : Bool) where
             let i : IsUnambiguous (w.0 ++ rest) = subst (λ (y : List ℕ). IsUnambiguous (y ++ rest)) q k in
             rw (q, m.2) (void_run n w.0 rest attributes w.4 v outside i))
             (λ v. let m = rw v at w.5 in
-            let q : s ++ rest ≡ w.0 ++ (w.1 ++ (w.2 ++ rest)) =
-            ap (λ (y : List ℕ). y ++ rest) w.3 ∙ append_assoc w.0 (w.1 ++ w.2) rest
-            ∙ ap (λ (y : List ℕ). w.0 ++ y) (append_assoc w.1 w.2 rest) in
-            let i : IsUnambiguous (w.0 ++ (w.1 ++ (w.2 ++ rest))) = subst IsUnambiguous q k in
-            let content = unambiguous_inside w.0 n (w.1 ++ (w.2 ++ rest)) attributes w.4 i in
-            let j = unambiguous_outside n (w.1 ++ (w.2 ++ rest)) content in
-            rw w.3 (closed_run n w.0 w.1 w.2 rest attributes ks w.4 v i (test (drops_line_feed n)
-            (λ d. feed_closed n ks ih tail (p ∷ c) w.1 w.2 rest (rw d at m.0) m.1 d (pre_plain z n d aside) outside
-            parts.2 j)
-            (λ d. let inside = subst (ReadsForest (project z) (n ∷ (p ∷ c)) true ks) (content_plain n w.1 d) m.0 in
-            test (holds_text_alone z n) (λ t. raw_closed n ks (p ∷ c) w.1 w.2 rest inside m.1 t aside content)
-            (λ t. normal_closed n ks ih (p ∷ c) w.1 w.2 rest inside m.1 d t outside parts.2 j)))))
+            rw w.3 (tagged_run n attributes ks ih tail tables p c w.0 w.1 w.2 rest w.4 v aside outside parts.2 m.0 m.1
+            (subst (λ (y : List ℕ). IsUnambiguous (y ++ rest)) w.3 k)))
         | inr w ↦ absurd (not_implied z n ks parts.1 w.3 w.5)
+      ]
+
+  -- the rows at the end of a table, with the tags of their `tbody` or without
+  body_run : (attributes : List AttributePair) (ks : ValueForest) → ForestRun z ks → Tail ks → TableRun z ks
+      → (p : List ℕ) (c : Context) (last : Bool) (s rest : List ℕ)
+      → ReadsTree (project z) (p ∷ c) last (element (codes "tbody") attributes ks) s → is_simple ks ≡ true
+      → IsUnambiguous (s ++ rest) → Ending rest
+      → Made z (λ xs. SpellsTree (element (codes "tbody") attributes ks) xs
+      ⊎ SpellsRows (element (codes "tbody") attributes ks) xs) s rest
+  unfolding is_void
+  body_run attributes ks ih tail tables p c last s rest h o k st =
+      elim h.2 [
+        | inl w ↦
+            let m = w.5 in
+            let r = tagged_run (codes "tbody") attributes ks ih tail tables p c w.0 w.1 w.2 rest w.4 refl refl refl o
+            m.0 m.1 (subst (λ (y : List ℕ). IsUnambiguous (y ++ rest)) w.3 k) in
+            rw w.3 (r.0, inl r.1, r.2)
+        | inr w ↦
+            let q : s ++ rest ≡ w.0 ++ (w.1 ++ rest) =
+            ap (λ (y : List ℕ). y ++ rest) w.2 ∙ append_assoc w.0 w.1 rest in
+            let i : IsUnambiguous (w.0 ++ (w.1 ++ rest)) = subst IsUnambiguous q k in
+            elim w.7 [
+              | inl g ↦
+                  let r = end_read w.1 (codes "tbody") rest g (unambiguous_back w.0 (w.1 ++ rest) i) in
+                  let inside = ih (codes "tbody") (p ∷ c) true w.0 (w.1 ++ rest) w.6 (section_plain z) o i
+                  (inr r.1) in
+                  let end : List TokenValue = end_tag (tag_named (codes "tbody") [] false) ∷ [] in
+                  let last = one_token z (end_tag (tag_named (codes "tbody") [] false)) w.1 rest
+                  (end_filled z w.1 (codes "tbody") g) r.0 refl refl in (
+                    inside.0 ++ end,
+                    inr (inside.0, end, refl, refl, w.4, w.5, inside.1, inr refl),
+                    from_text z q (joined z inside.2 last),
+                  )
+              | inr g ↦
+                  let i2 : IsUnambiguous (w.0 ++ rest) =
+                  subst (λ (y : List ℕ). IsUnambiguous (w.0 ++ (y ++ rest))) g.0 i in
+                  let inside = ih (codes "tbody") (p ∷ c) true w.0 rest w.6 (section_plain z) o i2 st in (
+                    inside.0,
+                    inr (inside.0, [], sym (append-nil inside.0), refl, w.4, w.5, inside.1, inl refl),
+                    from_text z (q ∙ ap (λ (y : List ℕ). w.0 ++ (y ++ rest)) g.0) inside.2,
+                  )
+            ]
       ]
 
   -- ---- one tree after another
@@ -309,7 +411,7 @@ module _ (z : Bool) where
       let q = ap (λ (y : List ℕ). y ++ rest) h.2 ∙ append_assoc h.0 h.1 rest in
       let i = subst IsUnambiguous q k in
       let follows : IsTextTree t ≡ true → Ending (h.1 ++ rest) =
-      λ f. text_ending z t ts p c last h.1 rest f h.3 h.5 b.1 (unambiguous_back h.0 (h.1 ++ rest) i) st in
+      λ f. text_ending z t ts p c last h.1 rest f h.3 h.5 (unambiguous_back h.0 (h.1 ++ rest) i) st in
       let j = unambiguous_after z t p c _ h.0 (h.1 ++ rest) h.4 e b.0 follows i in
       let first = one p c _ h.0 (h.1 ++ rest) h.4 e b.0 i follows in
       let others = all p c last h.1 rest h.5 e b.1 j st in (
@@ -318,12 +420,71 @@ module _ (z : Bool) where
         from_text z q (joined z first.2 others.2),
       )
 
+  -- ---- what a table holds
+
+  -- the last tree, with nothing behind it
+  last_run : (t : ValueTree) (Spells : List TokenValue → Type 0) (p : List ℕ) (c : Context) (last : Bool)
+      (s rest : List ℕ) (h : ReadsForest (project z) (p ∷ c) last (more t none) s)
+      → Made z Spells h.0 (h.1 ++ rest)
+      → Made z Spells s rest
+  last_run t Spells p c last s rest h r =
+      let e : s ≡ h.0 = h.2 ∙ ap (λ (y : List ℕ). h.0 ++ y) h.5 ∙ append-nil h.0 in
+      subst (λ (y : List ℕ). Made z Spells y rest) (sym e)
+      (subst (λ (y : List ℕ). Made z Spells h.0 (y ++ rest)) h.5 r)
+
+  -- trees before the last one
+  table_next : (t : ValueTree) (u : ValueTree) (us : ValueForest) → TreeRun z t → TableRun z (more u us)
+      → TableRun z (more t (more u us))
+  table_next t u us one all p c last s rest h e o k st =
+      let ts = more u us in
+      let b = and_parts (is_simple_tree t) (is_simple_table ts) o in
+      let q = ap (λ (y : List ℕ). y ++ rest) h.2 ∙ append_assoc h.0 h.1 rest in
+      let i = subst IsUnambiguous q k in
+      let follows : IsTextTree t ≡ true → Ending (h.1 ++ rest) =
+      λ f. text_ending z t ts p c last h.1 rest f h.3 h.5 (unambiguous_back h.0 (h.1 ++ rest) i) st in
+      let j = unambiguous_after z t p c _ h.0 (h.1 ++ rest) h.4 e b.0 follows i in
+      let first = one p c _ h.0 (h.1 ++ rest) h.4 e b.0 i follows in
+      let others = all p c last h.1 rest h.5 e b.1 j st in (
+        first.0 ++ others.0,
+        (first.0, others.0, refl, first.1, others.1),
+        from_text z q (joined z first.2 others.2),
+      )
+
+  -- a last tree that is simple
+  simple_last : (t : ValueTree) → TreeRun z t → (p : List ℕ) (c : Context) (last : Bool) (s rest : List ℕ)
+      → ReadsForest (project z) (p ∷ c) last (more t none) s → holds_text_alone z p ≡ false
+      → is_simple_tree t ≡ true → IsUnambiguous (s ++ rest) → Ending rest
+      → Made z (SpellsTable (more t none)) s rest
+  simple_last t one p c last s rest h e o k st =
+      let q = ap (λ (y : List ℕ). y ++ rest) h.2 ∙ append_assoc h.0 h.1 rest in
+      let r = one p c _ h.0 (h.1 ++ rest) h.4 e o (subst IsUnambiguous q k)
+      (λ f. subst (λ (y : List ℕ). Ending (y ++ rest)) (sym h.5) st) in
+      last_run t (SpellsTable (more t none)) p c last s rest h (r.0, inl r.1, r.2)
+
+  rows_last : (n : List ℕ) (attributes : List AttributePair) (ks : ValueForest) → ForestRun z ks → Tail ks
+      → TableRun z ks → (p : List ℕ) (c : Context) (last : Bool) (s rest : List ℕ)
+      → ReadsForest (project z) (p ∷ c) last (more (element n attributes ks) none) s
+      → is_simple_body (element n attributes ks) ≡ true → IsUnambiguous (s ++ rest) → Ending rest
+      → Made z (SpellsTable (more (element n attributes ks) none)) s rest
+  rows_last n attributes ks ih tail tables p c last s rest h o k st =
+      let b = and_parts (may_be_implied n ks) (is_simple ks) o in
+      let name : n ≡ codes "tbody" = one_name (codes "tbody") n (and_parts (is_tbody n) (begins_with_row ks) b.0).0 in
+      let q = ap (λ (y : List ℕ). y ++ rest) h.2 ∙ append_assoc h.0 h.1 rest in
+      let run = body_run attributes ks ih tail tables p c (may_end_rows last none h.1) h.0 (h.1 ++ rest)
+      (subst (λ (m : List ℕ). ReadsTree (project z) (p ∷ c) (may_end_rows last none h.1) (element m attributes ks)
+      h.0)
+      name h.4) b.1 (subst IsUnambiguous q k) (subst (λ (y : List ℕ). Ending (y ++ rest)) (sym h.5) st) in
+      last_run (element n attributes ks) (SpellsTable (more (element n attributes ks) none)) p c last s rest h
+      (subst (λ (m : List ℕ). Made z (SpellsTable (more (element m attributes ks) none)) h.0 (h.1 ++ rest))
+      (sym name)
+      run)
+
   mutual
     tree_run : (t : ValueTree) → TreeRun z t
     tree_run (text u) p c last s rest h e o k st = text_run z u p c last s rest h e o k st
     tree_run (comment u) p c last s rest h e o k st = comment_run z u p c last s rest h e o k st
     tree_run (element n attributes ks) p c last s rest h e o k st =
-        element_run n attributes ks (forest_run ks) (tail_run ks) p c last s rest h e o k st
+        element_run n attributes ks (forest_run ks) (tail_run ks) (table_run ks) p c last s rest h e o k st
     tree_run _ p c last s rest h e o k st = absurd h
 
     tail_run : (ts : ValueForest) → Tail ts
@@ -334,6 +495,24 @@ module _ (z : Bool) where
     forest_run none p c last s rest h e o k st = ([], refl, rw h here)
     forest_run (more t ts) p c last s rest h e o k st =
         next_run t ts (tree_run t) (forest_run ts) p c last s rest h e o k st
+
+    table_run : (ts : ValueForest) → TableRun z ts
+    table_run none p c last s rest h e o k st = ([], refl, rw h here)
+    table_run (more (element n attributes ks) none) p c last s rest h e o k st =
+        test (is_simple_tree (element n attributes ks))
+        (λ t. simple_last (element n attributes ks)
+        (λ p c last s rest h e o k st.
+        element_run n attributes ks (forest_run ks) (tail_run ks) (table_run ks) p c last s rest h e o k st)
+        p c last s rest h e t k st)
+        (λ t. rows_last n attributes ks (forest_run ks) (tail_run ks) (table_run ks) p c last s rest h (rw t at o) k
+        st)
+    table_run (more (text u) none) p c last s rest h e o k st =
+        simple_last (text u) (text_run z u) p c last s rest h e refl k st
+    table_run (more (comment u) none) p c last s rest h e o k st =
+        simple_last (comment u) (comment_run z u) p c last s rest h e refl k st
+    table_run (more _ none) p c last s rest h e o k st = absurd (h.4)
+    table_run (more t (more u us)) p c last s rest h e o k st =
+        table_next t u us (tree_run t) (table_run (more u us)) p c last s rest h e o k st
 
 body_plain : (z : Bool) → holds_text_alone z (codes "body") ≡ false
 body_plain true = refl

@@ -1,6 +1,6 @@
 -- Tokens that are read one after another; a text and a comment of the strict grammar, and what follows a text.
 use Rattle.std.proofs.Common.{◌≡◌, ◌≢◌, ℕ, zero, suc, ◌<◌, ◌≤◌, Bool, true, false, not, ◌&&◌, List, [], ◌∷◌, ◌++◌}
-use Rattle.std.proofs.Common.{length}
+use Rattle.std.proofs.Common.{length, if◌then◌else◌}
 use Rattle.std.proofs.Common.{Some, refl, sym, ap, ◌∙◌, arith, inl, inr, codes, subst, append_assoc, length-append}
 use Rattle.std.proofs.lemmas.Bool.{and_parts, or_parts, not-true}
 use Rattle.std.proofs.lemmas.List.{append-nil}
@@ -9,14 +9,14 @@ use Rattle.htmd_values.specs.ValueTrees.{ValueTree, ValueForest, none, more, tex
 use Rattle.htmd_values.specs.ValueTrees.{comment, element}
 use Rattle.htmd_lexical.specs.CharacterClasses.{is_among, up_to}
 use Rattle.htmd_grammar.specs.Grammar.{Apart, begins_with_row, may_end_rows, ReadsTree, ReadsForest}
-use Rattle.htmd_grammar.specs.Nesting.{Context, is_tbody}
+use Rattle.htmd_grammar.specs.Nesting.{Context, is_table, is_tbody}
 use Rattle.htmd_grammar.specs.RawContent.{holds_text_alone, holds_raw_text, ends_text, begins_markup, text_of}
 use Rattle.htmd_grammar.specs.Rules.{named_characters, project}
 use Rattle.htmd_grammar.specs.References.{decode}
 use Rattle.htmd_grammar.specs.Tags.{IsStartTag, IsEndTag}
 use Rattle.htmd_values.specs.Serialisation.{is_void}
 use Rattle.htmd_lexical.proofs.Cases.{test}
-use Rattle.htmd_grammar.proofs.TreeTexts.{Inside, IsTextTree}
+use Rattle.htmd_grammar.proofs.TreeTexts.{Inside, IsTextTree, row_start}
 use Rattle.htmd_html5_tokens.specs.Tokens.{TokenValue}
 use Rattle.htmd_html5_tokens.specs.NextToken.{next_token}
 use Rattle.htmd_lexical.specs.declared.content_model.ContentModel.{ContentModel}
@@ -24,7 +24,7 @@ use Rattle.htmd_lexical.specs.declared.content_model.ContentModel.TheVariants.{N
 use Rattle.htmd_html5.specs.Html5Documents.{is_end}
 use Rattle.htmd_law_html5.specs.StrictReferences.{in_tag, IsUnambiguousAt, IsUnambiguous}
 use Rattle.htmd_law_html5.specs.StrictTokens.{content_after, tokens_within, SpellsTree, SpellsForest, is_set_aside}
-use Rattle.htmd_law_html5.specs.StrictTokens.{may_be_implied, is_simple_tree, is_simple}
+use Rattle.htmd_law_html5.specs.StrictTokens.{may_be_implied, is_simple_tree, is_simple, is_simple_table, SpellsTable}
 use Rattle.htmd_law_html5.proofs.StrictReferencesLemmas.{Ending}
 use Rattle.htmd_law_html5.proofs.StrictCuts.{unambiguous_in_tag, unambiguous_past, unambiguous_after_sign, EndsInSign}
 use Rattle.htmd_law_html5.proofs.StrictCuts.{sign_before, start_sign, end_sign}
@@ -89,6 +89,13 @@ module _ (z : Bool) where
       s → holds_text_alone z p ≡ false → is_simple_tree t ≡ true → IsUnambiguous (s ++ rest)
       → (IsTextTree t ≡ true → Ending rest) → Made (SpellsTree t) s rest
 
+  -- the trees that a table holds
+  abbrev pub TableRun : ValueForest → Type 0
+  TableRun ts = (p : List ℕ) (c : Context) (last : Bool) (s rest : List ℕ) → ReadsForest (project z) (p ∷ c)
+      last ts s
+      → holds_text_alone z p ≡ false → is_simple_table ts ≡ true → IsUnambiguous (s ++ rest) → Ending rest
+      → Made (SpellsTable ts) s rest
+
   abbrev pub ForestRun : ValueForest → Type 0
   ForestRun ts = (p : List ℕ) (c : Context) (last : Bool) (s rest : List ℕ) → ReadsForest (project z) (p ∷ c)
       last ts s
@@ -130,9 +137,11 @@ module _ (z : Bool) where
   -- what a simple element is, and that its tags stand there
   pub simple_parts : (n : List ℕ) (attributes : List AttributePair) (ks : ValueForest)
       → is_simple_tree (element n attributes ks) ≡ true
-      → (is_set_aside n ≡ false) × (may_be_implied n ks ≡ false) × (is_simple ks ≡ true)
+      → (is_set_aside n ≡ false) × (may_be_implied n ks ≡ false)
+      × ((if is_table n then is_simple_table ks else is_simple ks) ≡ true)
   simple_parts n attributes ks o =
-      let parts = and_parts (not (is_set_aside n) && not (may_be_implied n ks)) (is_simple ks) o in
+      let inner = if is_table n then is_simple_table ks else is_simple ks in
+      let parts = and_parts (not (is_set_aside n) && not (may_be_implied n ks)) inner o in
       let own = and_parts (not (is_set_aside n)) (not (may_be_implied n ks)) parts.0 in
       (not-true (is_set_aside n) own.0, not-true (may_be_implied n ks) own.1, parts.1)
 
@@ -140,24 +149,28 @@ module _ (z : Bool) where
       → begins_with_row ks ≡ true → ⊥
   not_implied n ks a t b = let w = rw (t, b) at a in cc
 
+  -- what rows without the tags of their `tbody` begin with
+  rows_begin : (ks : ValueForest) (c : Context) (s x : List ℕ) → ReadsForest (project z) c true ks s
+      → begins_with_row ks ≡ true → IsUnambiguousAt in_tag (s ++ x) → next.begins_markup (s ++ x) ≡ true
+  rows_begin ks c s x h b k =
+      let r = row_start (project z) ks c true s h b in
+      let q : s ++ x ≡ r.0 ++ (r.1 ++ x) = ap (λ (y : List ℕ). y ++ x) r.3 ∙ append_assoc r.0 r.1 x in
+      ap next.begins_markup q
+      ∙ (start_read r.0 (codes "tr") (r.1 ++ x) r.2 r.4 (subst (IsUnambiguousAt in_tag) q k)).3
+
   -- a text ends at the end, or before markup
   pub text_ending : (t : ValueTree) (ts : ValueForest) (p : List ℕ) (c : Context) (last : Bool) (s rest : List ℕ)
-      → IsTextTree t ≡ true → Apart t ts → ReadsForest (project z) (p ∷ c) last ts s → is_simple ts ≡ true
+      → IsTextTree t ≡ true → Apart t ts → ReadsForest (project z) (p ∷ c) last ts s
       → IsUnambiguousAt in_tag (s ++ rest) → Ending rest → Ending (s ++ rest)
-  text_ending t none p c last s rest i a h o k st = rw h st
-  text_ending (text u) (more (text v) ts) p c last s rest i a h o k st = absurd a
-  text_ending _ (more (text v) ts) p c last s rest i a h o k st = absurd (cc)
-  text_ending t (more (comment v) ts) p c last s rest i a h o k st =
+  text_ending t none p c last s rest i a h k st = rw h st
+  text_ending (text u) (more (text v) ts) p c last s rest i a h k st = absurd a
+  text_ending _ (more (text v) ts) p c last s rest i a h k st = absurd (cc)
+  text_ending t (more (comment v) ts) p c last s rest i a h k st =
       let q = ap (λ (y : List ℕ). y ++ rest) h.2 ∙ append_assoc h.0 h.1 rest in
       inr (ap next.begins_markup q ∙ (comment_read h.0 v (h.1
       ++ rest) (h.4).0 (subst (IsUnambiguousAt in_tag) q k)).1)
-  text_ending t (more (element n attributes ks) ts) p c last s rest i a h o k st = go (h.4).2
+  text_ending t (more (element n attributes ks) ts) p c last s rest i a h k st = go (h.4).2
     where
-      spelled : may_be_implied n ks ≡ false
-      spelled =
-          let b = and_parts (is_simple_tree (element n attributes ks)) (is_simple ts) o in
-          (simple_parts n attributes ks b.0).1
-
       go : Inside (project z) (p ∷ c) (may_end_rows last ts h.1) n attributes ks h.0 → Ending (s ++ rest)
       go (inl w) =
           let q : s ++ rest ≡ w.0 ++ ((w.1 ++ w.2) ++ (h.1 ++ rest)) =
@@ -165,8 +178,13 @@ module _ (z : Bool) where
           ∙ ap (λ (y : List ℕ). y ++ (h.1 ++ rest)) w.3 ∙ append_assoc w.0 (w.1 ++ w.2) (h.1 ++ rest) in
           inr (ap next.begins_markup q
           ∙ (start_read w.0 n ((w.1 ++ w.2) ++ (h.1 ++ rest)) attributes w.4 (subst (IsUnambiguousAt in_tag) q k)).3)
-      go (inr w) = absurd (not_implied n ks spelled w.3 w.5)
-  text_ending t (more _ ts) p c last s rest i a h o k st = absurd (h.4)
+      go (inr w) =
+          let q : s ++ rest ≡ w.0 ++ (w.1 ++ (h.1 ++ rest)) =
+          ap (λ (y : List ℕ). y ++ rest) h.2 ∙ append_assoc h.0 h.1 rest
+          ∙ ap (λ (y : List ℕ). y ++ (h.1 ++ rest)) w.2 ∙ append_assoc w.0 w.1 (h.1 ++ rest) in
+          inr (ap next.begins_markup q
+          ∙ rows_begin ks (n ∷ p ∷ c) w.0 (w.1 ++ (h.1 ++ rest)) w.6 w.5 (subst (IsUnambiguousAt in_tag) q k))
+  text_ending t (more _ ts) p c last s rest i a h k st = absurd (h.4)
 
   -- what follows a tree is unambiguous
   pub unambiguous_after : (t : ValueTree) (p : List ℕ) (c : Context) (last : Bool) (s x : List ℕ)

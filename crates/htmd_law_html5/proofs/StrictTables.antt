@@ -1,8 +1,9 @@
 -- What tags and texts do in a table, where the strict grammar allows them.
-use Rattle.std.proofs.Common.{◌≡◌, ℕ, ◌<◌, Bool, true, false, not, if◌then◌else◌, List, [], ◌∷◌, length, Option}
+use Rattle.std.proofs.Common.{◌≡◌, ℕ, ◌<◌, Bool, true, false, not, ◌&&◌, ◌||◌, if◌then◌else◌, List, [], ◌∷◌, length}
+use Rattle.std.proofs.Common.{Option}
 use Rattle.std.proofs.Common.{None, refl, sym, ap, ◌∙◌, arith, subst, codes}
 use Rattle.std.specs.List.{list_all}
-use Rattle.std.proofs.lemmas.Bool.{and_parts}
+use Rattle.std.proofs.lemmas.Bool.{and_parts, or_right}
 use Rattle.htmd_lexical.specs.AttributePairs.{AttributePair}
 use Rattle.htmd_lexical.specs.CharacterClasses.{is_among, is_empty}
 use Rattle.htmd_lexical.specs.WhiteSpace.{is_ascii_white_space}
@@ -11,31 +12,39 @@ use Rattle.htmd_grammar.proofs.NestingLemmas.{among_passes}
 use Rattle.htmd_html5_tokens.specs.Tokens.{start_tag, end_tag, text}
 use Rattle.htmd_html5_state.specs.Names.{known, html, name_of_text}
 use Rattle.htmd_html5_state.specs.OpenElements.{OpenValue, current_is, clear_to}
-use Rattle.htmd_html5_state.specs.Insertion.{opened, insert_text, insert_element}
+use Rattle.htmd_html5_state.specs.Insertion.{current, opened, insert_text, insert_element}
 use Rattle.htmd_html5_state.specs.Formatting.{after_marker, push_marker}
 use Rattle.htmd_html5_state.specs.Resetting.{mode_of}
 use Rattle.htmd_html5_state.specs.Sets.{is_of}
 use Rattle.htmd_html5_state.specs.State.{StateValue}
 use Rattle.htmd_html5_state.specs.declared.modes.InsertionMode.{InsertionMode}
 use Rattle.htmd_html5_state.specs.declared.modes.InsertionMode.TheVariants.{InTable, InTableBody, InRow, InCell}
+use Rattle.htmd_html5_state.specs.declared.modes.InsertionMode.TheVariants.{InCaption}
 use Rattle.htmd_html5_state.specs.declared.sets.NameSet.{NameSet}
 use Rattle.htmd_html5_state.specs.declared.sets.NameSet.TheVariants.{Fostering, TableContext, TableBodyContext}
 use Rattle.htmd_html5_state.specs.declared.sets.NameSet.TheVariants.{TableRowContext}
 use Rattle.htmd_html5.specs.AtOnce.{is_without_null, is_not_null}
 use Rattle.htmd_html5.specs.BodyStarts.{block_rule, formatting_rule, phrasing_rule}
-use Rattle.htmd_html5.specs.Feeding.{feed, feed_text, named, without_line_feed}
+use Rattle.htmd_html5.specs.Feeding.{feed, feed_text, feed_end_tag, named, without_line_feed, out_of_text_mode}
+use Rattle.htmd_html5.specs.Feeding.{with_nothing_skipped}
 use Rattle.htmd_html5.specs.InTable.{without_nulls, put_table_text}
 use Rattle.htmd_html5.specs.Modes.{in_mode}
-use Rattle.htmd_html5.specs.Outcomes.{done}
+use Rattle.htmd_html5.specs.ForeignContent.{is_foreign, goes_to_html, is_for_math_text, is_for_annotation}
+use Rattle.htmd_html5.specs.ForeignContent.{is_for_html_point}
+use Rattle.htmd_html5.specs.InTableBody.{start_row}
+use Rattle.htmd_html5.specs.Outcomes.{done, again}
 use Rattle.htmd_html5.specs.SharedRules.{with_mode, no_frameset, close_paragraph}
 use Rattle.htmd_html5.specs.Texts.{Taken, is_table_mode, takes_all, put_text}
-use Rattle.htmd_html5.specs.Processing.{turns}
+use Rattle.htmd_html5.specs.Processing.{turns, process}
+use Rattle.htmd_html5.proofs.ProcessingLemmas.{by_html, rests_first, rests_again, rests_done}
+use Rattle.htmd_html5_state.specs.Foreign.{current_is_html, is_math_text_point, is_annotation, is_html_point}
 use Rattle.htmd_html5.proofs.TextsLemmas.{put_part, takes_text, takes_first}
 use Rattle.htmd_law_html5.specs.StrictTokens.{tag_named}
 use Rattle.htmd_law_html5.proofs.StrictOpen.{Stands}
 use Rattle.htmd_law_html5.proofs.StrictNames.{among_each}
 use Rattle.htmd_law_html5.proofs.StrictModes.{section_names, cell_names}
-use Rattle.htmd_law_html5.proofs.StrictRules.{InContext, Flows, Fits, unskipped, no_raw, goes, fed, fed_start, by_mode}
+use Rattle.htmd_law_html5.proofs.StrictRules.{InContext, Flows, Fits, unskipped, no_raw, goes, fed, fed_start}
+use Rattle.htmd_law_html5.proofs.StrictRules.{by_mode}
 use Rattle.htmd_law_html5.proofs.StrictRules.{no_p_closed, opened_with}
 use Rattle.htmd_law_html5.proofs.StrictEnds.{fed_end}
 use Rattle.htmd_html5.specs.Tokens as construction
@@ -50,6 +59,23 @@ no_nulls (b ∷ u) e =
 filled : (u : List ℕ) → not (is_empty u) ≡ true → (is_empty u ≡ false) × (0 < length u)
 filled [] e = absurd (cc)
 filled (b ∷ u) e = (refl, omega arith)
+
+-- where the innermost element is of HTML, no token is of foreign content
+of_html : (token : construction.TokenValue) (s : StateValue) → current_is_html s.stack ≡ true
+    → goes_to_html token s ≡ true
+of_html token s h =
+    or_right ((is_for_math_text token && is_math_text_point (current s.stack))
+    || (is_for_annotation token && is_annotation (current s.stack))
+    || (is_for_html_point token && is_html_point s.nodes (current s.stack))) (current_is_html s.stack) h
+
+-- what the rules of one mode leave to those of another
+twice : (token : construction.TokenValue) (s t new : StateValue) → is_foreign token s ≡ false
+    → in_mode s.mode token s ≡ again t → is_foreign token t ≡ false → in_mode t.mode token t ≡ done new
+    → process token s ≡ new
+twice token s t new f e g k =
+    sym (rests_done token s t new 1 (turns s)
+    (rests_again token s s t 0 (turns s) (rests_first token s (turns s)) (sym (by_html token s f ∙ e)))
+    (omega arith) (sym (by_html token t g ∙ k)))
 
 module _ (p : List ℕ) (c : List (List ℕ)) (s : StateValue) (h : InContext (p ∷ c) s) where
   -- ---- white space between the parts
@@ -166,6 +192,45 @@ module _ (p : List ℕ) (c : List (List ℕ)) (s : StateValue) (h : InContext (p
           (e ∙ ap (λ stack. done (push_marker (put_on n attributes InCell stack)))
           (stays_there TableRowContext (rw q refl)))
 
+  pub caption_start : p ≡ codes "table" → s.mode ≡ InTable
+      → Starts (None ∷ s.formatting) InCaption (codes "caption")
+  caption_start q m attributes slash =
+      fed_by (codes "caption") attributes slash _ InTable m
+      (ap (λ stack. done (with_mode InCaption (insert_element (known tags.Caption) attributes
+      (push_marker (record s { stack = stack }))))) (stays_there TableContext (rw q refl)))
+
+  -- a caption is not the outermost element
+  pub caption_resets : (b : ℕ) (y : StateValue)
+      → mode_of (opened b (html (name_of_text (codes "caption"))) ∷ s.stack) y ≡ InCaption
+  caption_resets b y = by_stack s.stack h.stands
+    where
+      by_stack : (stack : List OpenValue) → Stands s.nodes (p ∷ c) stack
+          → mode_of (opened b (html (name_of_text (codes "caption"))) ∷ stack) y ≡ InCaption
+      by_stack [] k = absurd k
+      by_stack (x ∷ stack) k = refl
+
+  -- a row in a table implies the section around it
+  abbrev pub implied_body : StateValue
+  implied_body = opened_as (codes "tbody") [] s.formatting s.frameset_ok InTableBody
+
+  pub implied_row : p ≡ codes "table" → s.mode ≡ InTable → InContext (codes "tbody" ∷ (p ∷ c)) implied_body
+      → (attributes : List AttributePair) (slash : Bool)
+      → feed (start_tag (tag_named (codes "tr") attributes slash)) s
+      ≡ feed (start_tag (tag_named (codes "tr") attributes slash)) implied_body
+  implied_row q m i attributes slash =
+      let token : construction.TokenValue = tag_token (codes "tr") attributes slash in
+      let new : StateValue = start_row (known tags.Tr) attributes implied_body in
+      let implied : in_mode s.mode token s ≡ again implied_body =
+      by_mode p c s h token m ∙ ap (λ stack. again (put_on (codes "tbody") [] InTableBody stack))
+      (stays_there TableContext (rw q refl)) in
+      let whole : process token (out_of_text_mode (with_nothing_skipped s)) ≡ new =
+      ap (λ (x : StateValue). process token (out_of_text_mode x)) (unskipped p c s h)
+      ∙ rw (no_raw p c s h) (twice token s implied_body new (ap not (goes p c s h token)) implied
+      (ap not (goes (codes "tbody") (p ∷ c) implied_body i token)) refl) in
+      whole
+      ∙ sym (fed (codes "tbody") (p ∷ c) implied_body i token new
+      (ap not (goes (codes "tbody") (p ∷ c) implied_body i token)) refl)
+
   -- a cell is not the outermost element
   pub cell_resets : (n : List ℕ) → is_among cell_names n ≡ true → (b : ℕ) (y : StateValue)
       → mode_of (opened b (html (name_of_text n)) ∷ s.stack) y ≡ InCell
@@ -229,3 +294,26 @@ module _ (p : List ℕ) (c : List (List ℕ)) (s : StateValue) (h : InContext (p
           λ k. end_by (codes "td") _ InCell k e refl,
           (λ k. end_by (codes "th") _ InCell k e refl, tt),
         ) k
+
+    pub caption_end : Top (codes "caption") → s.mode ≡ InCaption
+        → feed (end_tag (tag_named (codes "caption") [] false)) s
+        ≡ record s { stack = es; formatting = after_marker s.formatting; mode = InTable }
+    caption_end k e = end_by (codes "caption") _ InCaption k e refl
+
+  -- the end of a table ends the section in it
+  pub body_table_end : (b a : ℕ) (es : List OpenValue) (m : InsertionMode)
+      → s.stack ≡ opened b (html (name_of_text (codes "tbody"))) ∷ opened a (html (name_of_text (codes "table")))
+      ∷ es
+      → s.mode ≡ InTableBody → ((y : StateValue) → mode_of es y ≡ m)
+      → feed (end_tag (tag_named (codes "table") [] false)) s ≡ record s { stack = es; mode = m }
+  body_table_end b a es m k e r =
+      let token : construction.TokenValue = construction.end_tag (known tags.Table) in
+      let inner : List OpenValue = opened a (html (name_of_text (codes "table"))) ∷ es in
+      let t : StateValue = record s { stack = inner; mode = InTable } in
+      let left : in_mode s.mode token s ≡ again t =
+      by_mode p c s h token e
+      ∙ ap (λ (stack : List OpenValue). in_mode InTableBody token (record s { stack = stack })) k in
+      ap (feed_end_tag (known tags.Table)) (unskipped p c s h)
+      ∙ rw (no_raw p c s h) (twice token s t (record s { stack = es; mode = m }) (ap not (goes p c s h token)) left
+      (ap not (of_html token t refl))
+      (ap (λ (i : InsertionMode). done (record s { stack = es; mode = i })) (r (record t { stack = es }))))

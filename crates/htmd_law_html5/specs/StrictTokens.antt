@@ -1,5 +1,6 @@
 -- The tokens of a text of the strict grammar, as the lenient reader's tokenizer reads them.
-use Rattle.std.specs.Prelude.{◌≡◌, ℕ, zero, suc, Bool, true, false, not, ◌&&◌, ◌==◌, if◌then◌else◌, List, [], ◌∷◌, ◌++◌}
+use Rattle.std.specs.Prelude.{◌≡◌, ◌⊎◌, ℕ, zero, suc, Bool, true, false, not, ◌&&◌, ◌||◌, ◌==◌, if◌then◌else◌, List}
+use Rattle.std.specs.Prelude.{[], ◌∷◌, ◌++◌}
 use Rattle.std.specs.Prelude.{length, codes}
 use Rattle.std.specs.Str.{bytes_eq}
 use Rattle.std.specs.Bool.{MatchBool}
@@ -11,7 +12,7 @@ use Rattle.htmd_grammar.specs.RawContent.{drops_line_feed}
 use Rattle.htmd_grammar.specs.Rules.{project}
 use Rattle.htmd_values.specs.Serialisation.{is_void}
 use Rattle.htmd_grammar.specs.Grammar.{begins_with_row, reads}
-use Rattle.htmd_grammar.specs.Nesting.{is_tbody}
+use Rattle.htmd_grammar.specs.Nesting.{is_table, is_tbody}
 use Rattle.htmd_grammar.specs.HtmlDocuments.{below_body}
 use Rattle.htmd_html5_tokens.specs.Tokens.{TagValue, TokenValue, start_tag, end_tag, text, comment, Read}
 use Rattle.htmd_html5_tokens.specs.NextToken.{next_token}
@@ -88,7 +89,7 @@ abbrev mutual
   SpellsTree (trees.element n attributes children) tokens =
       (slash : Bool) × (content end : List TokenValue)
       × (tokens ≡ start_tag (tag_named n attributes slash) ∷ (content ++ end))
-      × SpellsForest children (content_tokens n content)
+      × MatchBool (is_table n) (SpellsTable children content) (SpellsForest children (content_tokens n content))
       × MatchBool (is_void n) ((children ≡ none) × (end ≡ []))
       ((slash ≡ false) × (end ≡ end_tag (tag_named n [] false) ∷ []))
 
@@ -97,6 +98,22 @@ abbrev mutual
   SpellsForest none tokens = tokens ≡ []
   SpellsForest (more t ts) tokens =
       (first others : List TokenValue) × (tokens ≡ first ++ others) × SpellsTree t first × SpellsForest ts others
+
+  -- what a table holds: the last tree may be rows without the tags of their `tbody`
+  pub SpellsTable : ValueForest → List TokenValue → Type 0
+  SpellsTable none tokens = tokens ≡ []
+  SpellsTable (more t none) tokens = SpellsTree t tokens ⊎ SpellsRows t tokens
+  SpellsTable (more t (more u us)) tokens =
+      (first others : List TokenValue) × (tokens ≡ first ++ others) × SpellsTree t first
+      × SpellsTable (more u us) others
+
+  -- its end tag may be there
+  pub SpellsRows : ValueTree → List TokenValue → Type 0
+  SpellsRows (trees.element n attributes children) tokens =
+      (content end : List TokenValue) × (tokens ≡ content ++ end) × (is_tbody n ≡ true) × (attributes ≡ [])
+      × (begins_with_row children ≡ true) × SpellsForest children content
+      × ((end ≡ []) ⊎ (end ≡ end_tag (tag_named (codes "tbody") [] false) ∷ []))
+  SpellsRows _ tokens = ⊥
 
 -- ---- elements that are set aside
 
@@ -111,13 +128,24 @@ may_be_implied n children = is_tbody n && begins_with_row children
 abbrev mutual
   pub is_simple_tree : ValueTree → Bool
   is_simple_tree (trees.element n attributes children) =
-      not (is_set_aside n) && not (may_be_implied n children) && is_simple children
+      not (is_set_aside n) && not (may_be_implied n children)
+      && (if is_table n then is_simple_table children else is_simple children)
   is_simple_tree _ = true
 
   -- the trees hold no such element
   pub is_simple : ValueForest → Bool
   is_simple none = true
   is_simple (more t ts) = is_simple_tree t && is_simple ts
+
+  -- in a table the last one may be such a `tbody`
+  pub is_simple_table : ValueForest → Bool
+  is_simple_table none = true
+  is_simple_table (more t none) = is_simple_tree t || is_simple_body t
+  is_simple_table (more t (more u us)) = is_simple_tree t && is_simple_table (more u us)
+
+  pub is_simple_body : ValueTree → Bool
+  is_simple_body (trees.element n attributes children) = may_be_implied n children && is_simple children
+  is_simple_body _ = false
 
 -- ---- the law
 

@@ -2,12 +2,13 @@
 use Rattle.std.specs.Prelude.{◌≡◌, ℕ, Bool, true, false, not, ◌&&◌, ◌||◌, if◌then◌else◌, List, [], ◌∷◌, ◌++◌}
 use Rattle.std.specs.Prelude.{codes}
 use Rattle.htmd_lexical.specs.WhiteSpace.{is_ascii_white_space}
-use Rattle.htmd_values.specs.ValueTrees.{ValueTree, ValueForest, none, more, document, doctype, text, comment, element}
+use Rattle.htmd_values.specs.ValueTrees.{ValueTree, ValueForest, none, more, document, doctype, text, comment}
+use Rattle.htmd_values.specs.ValueTrees.{element}
 use Rattle.htmd_lexical.specs.CharacterClasses.{is_among}
 use Rattle.htmd_grammar.specs.Rules.{project}
 use Rattle.htmd_values.specs.Serialisation.{is_void}
 use Rattle.htmd_grammar.specs.Grammar.{begins_with_row, reads}
-use Rattle.htmd_grammar.specs.Nesting.{is_tbody}
+use Rattle.htmd_grammar.specs.Nesting.{is_table, is_tbody}
 use Rattle.htmd_lexical.specs.ByteOrderMarks.{behind_mark}
 use Rattle.htmd_grammar.specs.HtmlDocuments.{below_body, skeleton}
 use Rattle.htmd_nodes.specs.Layout.{document_items}
@@ -58,10 +59,11 @@ abbrev pub text_names : List (List ℕ)
 text_names =
     codes "iframe" ∷ codes "noembed" ∷ codes "noframes" ∷ codes "style" ∷ codes "title" ∷ codes "xmp" ∷ []
 
--- tables and their parts, but for `caption`, columns, and `tbody`
+-- tables and their parts, but for columns and `tbody`
 abbrev pub table_names : List (List ℕ)
 table_names =
-    codes "table" ∷ codes "thead" ∷ codes "tfoot" ∷ codes "tr" ∷ codes "td" ∷ codes "th" ∷ []
+    codes "table" ∷ codes "thead" ∷ codes "tfoot" ∷ codes "tr" ∷ codes "td" ∷ codes "th" ∷ codes "caption"
+    ∷ []
 
 -- all void elements but `col`, elements with these names, and `pre`
 abbrev pub is_plain_element : List ℕ → Bool
@@ -69,7 +71,7 @@ is_plain_element n =
     if is_void n then not (is_among (codes "col" ∷ []) n)
     else is_plain_name n || is_among (codes "pre" ∷ []) n || is_among text_names n || is_among table_names n
 
--- a `tbody` that has tags, since without them it would begin with a row
+-- a `tbody` that has tags wherever it stands, since without them it would begin with a row
 abbrev pub is_plain_body : List ℕ → ValueForest → Bool
 is_plain_body n children = is_tbody n && not (begins_with_row children)
 
@@ -81,17 +83,27 @@ abbrev mutual
   is_plain_tree (text u) = true
   is_plain_tree (comment u) = true
   is_plain_tree (element n attributes children) =
-      (is_plain_element n || is_plain_body n children) && are_plain children
+      (is_plain_element n || is_plain_body n children)
+      && (if is_table n then are_plain_table children else are_plain children)
 
   pub are_plain : ValueForest → Bool
   are_plain none = true
   are_plain (more t ts) = is_plain_tree t && are_plain ts
 
+  -- in a table the last one may be a `tbody` that begins with a row
+  pub are_plain_table : ValueForest → Bool
+  are_plain_table none = true
+  are_plain_table (more t none) = is_plain_tree t || are_plain_rows t
+  are_plain_table (more t (more u us)) = is_plain_tree t && are_plain_table (more u us)
+
+  pub are_plain_rows : ValueTree → Bool
+  are_plain_rows (element n attributes children) = is_tbody n && begins_with_row children && are_plain children
+  are_plain_rows _ = false
+
 -- ---- the law
 
 -- Where an unambiguous text denotes plain trees by the strict grammar, the lenient reader gives the same tree if
--- `<body>`
--- stands before the text.
+-- `<body>` stands before the text.
 abbrev pub PlainPagesAgree : Type 0
 PlainPagesAgree =
     (scripting : Bool) (s : List ℕ) (content : ValueForest) → IsUnambiguous s → are_plain content ≡ true
