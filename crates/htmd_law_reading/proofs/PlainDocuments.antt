@@ -1,10 +1,12 @@
--- What is read of the Markdown of a flat document has text alone in descriptions of images, and breaks that are tags
--- only in headings and cells.
+-- What is read of the Markdown of a flat document has text alone in descriptions of images, breaks that are tags only
+-- in
+-- headings and cells, and no row of more cells than its header.
 use Rattle.std.proofs.Common.{◌≡◌, ℕ, zero, suc, Bool, true, false, not, List, [], ◌∷◌, ◌++◌, refl, sym}
-use Rattle.std.proofs.Common.{Option, None, subst}
+use Rattle.std.proofs.Common.{Option, None, subst, ap, ◌∙◌, arith}
 use Rattle.std.specs.List.{list_all}
-use Rattle.std.specs.Prelude.{⊤, if◌then◌else◌, length}
+use Rattle.std.specs.Prelude.{⊤, if◌then◌else◌, length, nat_le}
 use Rattle.std.proofs.lemmas.Bool.{and_parts, and_from}
+use Rattle.std.proofs.lemmas.Bool.Decides.{nat_tests}
 use Rattle.htmd_document.specs.Documents.{Inlines, Block, Blocks, Items, paragraph, heading, code_block, quote}
 use Rattle.htmd_document.specs.Documents.{thematic_break, list, table, element, tags, no_blocks, block, no_items, item}
 use Rattle.htmd_document.specs.NormalDocuments.{is_flat_block, are_flat_blocks, are_flat_items}
@@ -45,6 +47,10 @@ abbrev pub PlainRows : List (List markup.Inlines) → Type 0
 PlainRows [] = ⊤
 PlainRows (r ∷ rs) = PlainCells r × PlainRows rs
 
+-- no row has more cells than that
+abbrev pub RowsFit : ℕ → List (List markup.Inlines) → Type 0
+RowsFit n rows = list_all (λ r. nat_le (length r) n) rows ≡ true
+
 abbrev mutual
   pub PlainBlock : markup.Block → Type 0
   PlainBlock (markup.paragraph xs) = is_read_plainly false xs ≡ true
@@ -53,7 +59,8 @@ abbrev mutual
   PlainBlock (markup.quote bs) = PlainBlocks bs
   PlainBlock markup.thematic_break = ⊤
   PlainBlock (markup.list start tight items) = PlainItems items
-  PlainBlock (markup.table alignments header rows) = PlainCells header × PlainRows rows
+  PlainBlock (markup.table alignments header rows) =
+      PlainCells header × (PlainRows rows × RowsFit (length header) rows)
   PlainBlock (markup.html_block s) = ⊤
 
   pub PlainBlocks : markup.Blocks → Type 0
@@ -65,7 +72,7 @@ abbrev mutual
   PlainItems (markup.item bs rest) = PlainBlocks bs × PlainItems rest
 
 -- what may have no tags for breaks may have some
-more_plain : (xs : markup.Inlines) → is_read_plainly false xs ≡ true → is_read_plainly true xs ≡ true
+pub more_plain : (xs : markup.Inlines) → is_read_plainly false xs ≡ true → is_read_plainly true xs ≡ true
 more_plain markup.no_inlines h = refl
 more_plain (markup.letter c xs) h = more_plain xs h
 more_plain (markup.code s xs) h = more_plain xs h
@@ -151,6 +158,25 @@ fitted_plain refs zero ts h = tt
 fitted_plain refs (suc n) [] h = (refl, fitted_plain refs n [] tt)
 fitted_plain refs (suc n) (t ∷ ts) h = (h.0, fitted_plain refs n ts h.1)
 
+cells_length : (refs : References) (ts : List (List ℕ)) → length (cell_inlines refs ts) ≡ length ts
+cells_length refs [] = refl
+cells_length refs (t ∷ ts) = ap suc (cells_length refs ts)
+
+fitted_length : (n : ℕ) (ts : List (List ℕ)) → length (fitted n ts) ≡ n
+fitted_length zero ts = refl
+fitted_length (suc n) [] = ap suc (fitted_length n [])
+fitted_length (suc n) (t ∷ ts) = ap suc (fitted_length n ts)
+
+rows_fit : (refs : References) (n k : ℕ) (rows : List (List (List ℕ))) → n ≡ k
+    → RowsFit k (row_inlines refs (filled_rows n rows))
+rows_fit refs n k [] e = refl
+rows_fit refs n k (r ∷ rs) e =
+    let same : length (cell_inlines refs (fitted n r)) ≡ k =
+    cells_length refs (fitted n r) ∙ (fitted_length n r ∙ e) in
+    and_from (nat_le (length (cell_inlines refs (fitted n r))) k)
+    (list_all (λ r. nat_le (length r) k) (row_inlines refs (filled_rows n rs)))
+    (grind (arith, nat_tests, same)) (rows_fit refs n k rs e)
+
 rows_plain : (options : DocumentOptions) (all ds after : List (List ℕ)) (m : ℕ) (rows : List (List Inlines))
     → AreFew all → Numbered 1 ds → list_all (list_all is_normal_line) rows ≡ true
     → (written_rows (line_of options Cell) ds rows).definitions ++ after ≡ all
@@ -228,10 +254,15 @@ mutual
       let d' = grown_numbered ds es (cells_grown options ds header p.0) d in (
         cells_plain options all ds (g.more ++ after) header h d p.0
             (rest_of_all es (written_rows (line_of options Cell) es rows).definitions after all g e),
-        subst (λ y. PlainRows (row_inlines (references all)
-            (filled_rows (length (cell_texts options ds header)) (row_texts options y rows))))
-            (sym (after_is options ds header))
-            (rows_plain options all es after (length (cell_texts options ds header)) rows h d' p.1 e),
+        (
+          subst (λ y. PlainRows (row_inlines (references all)
+              (filled_rows (length (cell_texts options ds header)) (row_texts options y rows))))
+              (sym (after_is options ds header))
+              (rows_plain options all es after (length (cell_texts options ds header)) rows h d' p.1 e),
+          rows_fit (references all) (length (cell_texts options ds header))
+              (length (cell_inlines (references all) (cell_texts options ds header))) _
+              (sym (cells_length (references all) (cell_texts options ds header))),
+        ),
       )
 
   items_plainly : (options : DocumentOptions) (markers : Markers) (is_tight : Bool) (all ds after : List (List ℕ))

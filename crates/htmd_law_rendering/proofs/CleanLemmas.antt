@@ -8,9 +8,9 @@ use Rattle.std.proofs.lemmas.List.{append_assoc, append-nil}
 use Rattle.htmd_lexical.proofs.BooleanLemmas.{and_false, all_pass}
 use Rattle.htmd_lexical.proofs.Cases.{test}
 use Rattle.htmd_lexical.specs.AttributePairs.{AttributePair}
-use Rattle.htmd_lexical.specs.CharacterClasses.{first_is, behind_run, lacks, is_tag_name_byte}
+use Rattle.htmd_lexical.specs.CharacterClasses.{first_is, behind_run, lacks, is_among, is_tag_name_byte}
 use Rattle.std.specs.Char.{is_ascii_alphanumeric}
-use Rattle.htmd_document.specs.Tags.{in_value}
+use Rattle.htmd_document.specs.Tags.{in_value, in_text, escaped_text}
 use Rattle.htmd_html5_tokens.specs.NamedReferences.{longest_old, old_names}
 use Rattle.htmd_values.specs.Serialisation.{is_void, end_tag}
 use Rattle.htmd_grammar.specs.Nesting.{Context}
@@ -18,8 +18,11 @@ use Rattle.htmd_grammar.proofs.TextLemmas.{name_bytes}
 use Rattle.htmd_law_html5.specs.StrictReferences.{Place, has_bare_reference, is_bare_reference, counts, is_in_tag}
 use Rattle.htmd_law_html5.specs.StrictReferences.{place_after}
 use Rattle.htmd_commonmark_reading.specs.Rendering.{escaped_byte, escaped}
-use Rattle.htmd_law_rendering.specs.SpelledTrees.{Spelled, SpelledForest, text, element, none, more, value_in}
-use Rattle.htmd_law_rendering.specs.SpelledTrees.{attribute_in, TagForm, spaced, slashed, short, end_of_void, tag_end, tag, spelled, all_spelled}
+use Rattle.htmd_law_rendering.specs.SpelledTrees.{Spelled, SpelledForest, text, element, lone, section, none, more}
+use Rattle.htmd_law_rendering.specs.SpelledTrees.{document_keys}
+use Rattle.htmd_law_rendering.specs.SpelledTrees.{value_in, attribute_in, TagForm, spaced, slashed, short}
+use Rattle.htmd_law_rendering.specs.SpelledTrees.{end_of_void}
+use Rattle.htmd_law_rendering.specs.SpelledTrees.{tag_end, tag, spelled, all_spelled}
 use Rattle.htmd_law_rendering.proofs.SpellingLemmas.{element-spelled, void-spelled}
 use Rattle.htmd_law_rendering.proofs.TagLemmas.{IsTreeName, AreTreeKeys}
 use Rattle.htmd_law_rendering.proofs.FittingLemmas.{FitsTree, Fits}
@@ -92,6 +95,12 @@ value_byte-clean b =
     test (b == 93) (λ w. rw (t, p, q, r, v, w) bracket) (λ w.
     rw (t, p, q, r, v, w) (one b t)))))))
 
+text_byte-clean : (b : ℕ) → KeepsClean (in_text b)
+text_byte-clean b =
+    test (b == 38) (λ t. rw t amp) (λ t.
+    test (b == 60) (λ p. rw (t, p) lt) (λ p.
+    rw (t, p) (one b t)))
+
 bytes : (byte : ℕ → List ℕ) → ((b : ℕ) → KeepsClean (byte b)) → (s : List ℕ)
     → KeepsClean (flat_map byte s)
 bytes byte f [] = λ z h. h
@@ -102,7 +111,7 @@ text-clean s = bytes escaped_byte byte-clean s
 
 value-clean : (n k s : List ℕ) → KeepsClean (value_in n k s)
 value-clean n k s =
-    test (bytes_eq n (codes "abbr") || bytes_eq k (codes "id"))
+    test (bytes_eq n (codes "abbr") || is_among document_keys k)
     (λ e. rw e (bytes in_value value_byte-clean s)) (λ e. rw e (text-clean s))
 
 -- ---- names
@@ -166,6 +175,12 @@ module _ (z : Bool) where
         (both (tag k n attributes) (all_spelled ks) (tag-clean k n attributes f.1 f.2.0)
         (trees-clean ks (n ∷ c) e.1))
         (end_tag-clean n f.1)))
+    tree-clean (lone n attributes s) c f =
+        both (tag spaced n attributes ++ escaped_text s) (end_tag n)
+        (both (tag spaced n attributes) (escaped_text s) (tag-clean spaced n attributes f.1 f.2.0)
+        (bytes in_text text_byte-clean s))
+        (end_tag-clean n f.1)
+    tree-clean (section rows) c f = trees-clean rows (codes "tbody" ∷ c) f.2
 
     trees-clean : (ts : SpelledForest) (c : Context) → Fits z c ts → KeepsClean (all_spelled ts)
     trees-clean none c f = λ z h. h

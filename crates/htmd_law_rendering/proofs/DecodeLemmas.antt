@@ -6,12 +6,12 @@ use Rattle.std.specs.Str.{bytes_eq}
 use Rattle.std.proofs.lemmas.Bool.{and_parts, eqb-true, not-true}
 use Rattle.htmd_lexical.proofs.Cases.{test}
 use Rattle.htmd_lexical.proofs.BooleanLemmas.{lacks-append}
-use Rattle.htmd_lexical.specs.CharacterClasses.{lacks}
-use Rattle.htmd_document.specs.Tags.{in_value}
+use Rattle.htmd_lexical.specs.CharacterClasses.{lacks, is_among}
+use Rattle.htmd_document.specs.Tags.{in_value, in_text, escaped_text}
 use Rattle.htmd_grammar.specs.References.{decode, may_be_numbered}
 use Rattle.htmd_grammar.specs.Rules.{named_characters}
 use Rattle.htmd_commonmark_reading.specs.Rendering.{escaped_byte, escaped}
-use Rattle.htmd_law_rendering.specs.SpelledTrees.{value_in}
+use Rattle.htmd_law_rendering.specs.SpelledTrees.{document_keys, value_in}
 use lib.Utf8.{encode}
 
 -- whatever follows, the first bytes denote these
@@ -94,9 +94,25 @@ text-denotes s l = denotes escaped_byte byte-good s l
 
 pub value-denotes : (n k s : List ℕ) → lacks 13 s ≡ true → Denotes (value_in n k s) s
 value-denotes n k s l =
-    test (bytes_eq n (codes "abbr") || bytes_eq k (codes "id"))
+    test (bytes_eq n (codes "abbr") || is_among document_keys k)
     (λ e. rw e (denotes in_value value-good s l))
     (λ e. rw e (text-denotes s l))
+
+-- a text beside tags, which has quotation marks
+pub written-denotes : (s : List ℕ) → lacks 13 s ≡ true
+    → (decode named_characters 0 (escaped_text s) ≡ Some s) × (lacks 60 (escaped_text s) ≡ true)
+written-denotes [] l = (refl, refl)
+written-denotes (b ∷ s) l =
+    let p = and_parts (not (b == 13)) (lacks 13 s) l in
+    let g = byte b (not-true (b == 13) p.0) in
+    let h = written-denotes s p.1 in
+    (g.0 (escaped_text s) s h.0, lacks-append 60 (in_text b) (escaped_text s) g.1 h.1)
+  where
+    byte : (b : ℕ) → (b == 13) ≡ false → Decodes (in_text b) (b ∷ []) × (lacks 60 (in_text b) ≡ true)
+    byte b f =
+        test (b == 38) (λ t. let m = moved b 38 (codes "&amp;") t amp in rw t (m.0, m.1)) (λ t.
+        test (b == 60) (λ p. let m = moved b 60 (codes "&lt;") p lt in rw (t, p) (m.0, m.1)) (λ p.
+        rw (t, p) ((λ z u k. rw (t, f, k) refl), rw p refl)))
 
 -- ---- carriage returns
 
@@ -122,6 +138,9 @@ text-lacks s l = bytes-lack escaped_byte refl s l
 
 pub value-lacks : (n k s : List ℕ) → lacks 13 (value_in n k s) ≡ true → lacks 13 s ≡ true
 value-lacks n k s l =
-    test (bytes_eq n (codes "abbr") || bytes_eq k (codes "id"))
+    test (bytes_eq n (codes "abbr") || is_among document_keys k)
     (λ e. let w = rw e at l in bytes-lack in_value refl s w)
     (λ e. let w = rw e at l in text-lacks s w)
+
+pub written-lacks : (s : List ℕ) → lacks 13 (escaped_text s) ≡ true → lacks 13 s ≡ true
+written-lacks s l = bytes-lack in_text refl s l

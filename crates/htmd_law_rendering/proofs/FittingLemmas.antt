@@ -1,5 +1,6 @@
 -- Trees that stand where the strict grammar allows them are read in what they are spelled as.
 use Rattle.std.proofs.Common.{◌≡◌, ◌≢◌, ℕ, ◌≤◌, Bool, true, false, List, [], ◌∷◌, refl, sym, ap, ◌∙◌, codes, inl}
+use Rattle.std.proofs.Common.{inr}
 use Rattle.std.proofs.Common.{length, subst, ◌+◌, max, ◌++◌, arith}
 use Rattle.std.specs.Bool.{MatchBool}
 use Rattle.std.specs.List.{list_all, flat_map}
@@ -13,16 +14,21 @@ use Rattle.htmd_lexical.specs.Attributes.{attribute_names}
 use Rattle.htmd_lexical.specs.CharacterClasses.{are_distinct, lacks, is_among}
 use Rattle.htmd_lexical.specs.WhiteSpace.{is_ascii_white_space}
 use Rattle.htmd_values.specs.Serialisation.{is_void, end_tag}
-use Rattle.htmd_grammar.specs.Grammar.{Apart, ReadsForest, ReadsTree, may_end_rows}
+use Rattle.htmd_grammar.specs.Grammar.{Apart, ReadsForest, ReadsTree, begins_with_row, may_end_rows}
 use Rattle.htmd_grammar.specs.Nesting.{Context, parent_name, holds_parts, is_allowed}
 use Rattle.htmd_grammar.specs.RawContent.{content_of, holds_raw_text, holds_text_alone}
 use Rattle.htmd_grammar.specs.Rules.{project}
 use Rattle.htmd_grammar.proofs.ReadBackLemmas.{lacking_run}
 use Rattle.htmd_commonmark_reading.specs.Rendering.{escaped}
-use Rattle.htmd_law_rendering.specs.SpelledTrees.{TagForm, Spelled, SpelledForest, text, element, none, more, value_tree}
-use Rattle.htmd_law_rendering.specs.SpelledTrees.{value_forest, attribute_in, tag_end, tag, spelled, all_spelled}
+use Rattle.htmd_document.specs.Tags.{escaped_text}
+use Rattle.htmd_law_rendering.specs.SpelledTrees.{TagForm, spaced, Spelled, SpelledForest, text, element, lone, none}
+use Rattle.htmd_law_rendering.specs.SpelledTrees.{section}
+use Rattle.htmd_law_rendering.specs.SpelledTrees.{more, value_tree, value_forest, lone_text, attribute_in, tag_end}
+use Rattle.htmd_law_rendering.specs.SpelledTrees.{tag}
+use Rattle.htmd_law_rendering.specs.SpelledTrees.{spelled, all_spelled}
 use Rattle.htmd_law_rendering.specs.SpelledTrees.{levels_of, levels}
-use Rattle.htmd_law_rendering.proofs.DecodeLemmas.{lacks-parts, text-lacks, text-denotes}
+use Rattle.htmd_law_rendering.proofs.DecodeLemmas.{lacks-parts, text-lacks, text-denotes, written-lacks}
+use Rattle.htmd_law_rendering.proofs.DecodeLemmas.{written-denotes}
 use Rattle.htmd_law_rendering.proofs.SpellingLemmas.{element-spelled, void-spelled}
 use Rattle.htmd_law_rendering.proofs.TagLemmas.{IsTreeName, AreTreeKeys, AreTreePairs, with-values, start-tag}
 use Rattle.htmd_law_rendering.proofs.TagLemmas.{end-tag}
@@ -31,16 +37,22 @@ use Rattle.htmd_law_rendering.proofs.TagLemmas.{end-tag}
 abbrev pub FitPairs : List AttributePair → Type 0
 FitPairs attributes = AreTreeKeys attributes × (are_distinct (attribute_names attributes) ≡ true)
 
--- no two texts are neighbours
+-- no two texts are neighbours, and nothing stands behind a section
 abbrev pub AreApart : Spelled → SpelledForest → Type 0
 AreApart (text u) (more (text v) ts) = ⊥
+AreApart (section rows) (more t ts) = ⊥
 AreApart t ts = ⊤
 
 same-apart : (t : Spelled) (ts : SpelledForest) → AreApart t ts → Apart (value_tree t) (value_forest ts)
 same-apart (text u) none a = tt
 same-apart (text u) (more (text v) ts) a = a
 same-apart (text u) (more (element k n attributes ks) ts) a = tt
+same-apart (text u) (more (lone n attributes s) ts) a = tt
+same-apart (text u) (more (section rows) ts) a = tt
+same-apart (section rows) none a = tt
+same-apart (section rows) (more t ts) a = absurd a
 same-apart (element k n attributes ks) ts a = tt
+same-apart (lone n attributes s) ts a = tt
 
 -- no more than both are
 pub first : (a b d n : ℕ) → d + max a b ≤ n → d + a ≤ n
@@ -64,6 +76,12 @@ module _ (scripting : Bool) where
         (is_allowed scripting c n ≡ true) × IsTreeName n × FitPairs attributes
         × MatchBool (is_void n) (ks ≡ none)
         ((content_of n (all_spelled ks) ≡ all_spelled ks) × Fits (n ∷ c) ks)
+    FitsTree c (lone n attributes s) =
+        (is_allowed scripting c n ≡ true) × IsTreeName n × FitPairs attributes × (is_void n ≡ false)
+        × (content_of n (escaped_text s) ≡ escaped_text s) × FitsText (n ∷ c) s
+    FitsTree c (section rows) =
+        (is_allowed scripting c (codes "tbody") ≡ true) × (begins_with_row (value_forest rows) ≡ true)
+        × Fits (codes "tbody" ∷ c) rows
 
     pub Fits : Context → SpelledForest → Type 0
     Fits c none = ⊤
@@ -75,16 +93,68 @@ module _ (scripting : Bool) where
       let p = lacks-parts 13 (codes "<" ++ n ++ flat_map (attribute_in n) attributes) (tag_end k n) l in
       with-values n attributes h (lacks-parts 13 (codes "<" ++ n) (flat_map (attribute_in n) attributes) p.0).1
 
+  -- a text that is alone in its element
+  lone-read : (s : List ℕ) (c : Context) → FitsText c s → lacks 13 s ≡ true → length c + 1 ≤ 1025
+      → ReadsForest (project scripting) c true (lone_text s) (escaped_text s)
+  lone-read [] c h l m = refl
+  lone-read (b ∷ s) c h l m =
+      let u = b ∷ s in
+      let d = written-denotes u l in
+      let raw : holds_raw_text scripting (parent_name c) ≡ false =
+      (or_parts (is_among (codes "title" ∷ codes "textarea" ∷ []) (parent_name c))
+      (holds_raw_text scripting (parent_name c)) h.0).1 in (
+        escaped_text u,
+        [],
+        sym (append-nil (escaped_text u)),
+        tt,
+        (
+          (λ e. let w = e in cc),
+          lacking_run scripting (parent_name c) (escaped_text u) d.1,
+          rw raw d.0,
+          h.1,
+          omega arith,
+        ),
+        refl,
+      )
+
+  -- what stands last, where that matters
+  abbrev IsLast : Spelled → Bool → Type 0
+  IsLast (section rows) last = last ≡ true
+  IsLast t last = ⊤
+
+  is-last : (t : Spelled) (ts : SpelledForest) → AreApart t ts
+      → IsLast t (may_end_rows true (value_forest ts) (all_spelled ts))
+  is-last (text u) ts a = tt
+  is-last (element k n attributes ks) ts a = tt
+  is-last (lone n attributes s) ts a = tt
+  is-last (section rows) none a = refl
+  is-last (section rows) (more t ts) a = absurd a
+
   mutual
     tree-read : (t : Spelled) (c : Context) (last : Bool) → FitsTree c t → lacks 13 (spelled t) ≡ true
-        → length c + levels_of t ≤ 1025 → ReadsTree (project scripting) c last (value_tree t) (spelled t)
-    tree-read (text u) c last h l m =
+        → length c + levels_of t ≤ 1025 → IsLast t last
+        → ReadsTree (project scripting) c last (value_tree t) (spelled t)
+    tree-read (section rows) c last h l m e = (
+      h.0,
+      omega arith,
+      inr (
+        all_spelled rows,
+        [],
+        sym (append-nil (all_spelled rows)),
+        refl,
+        refl,
+        h.1,
+        trees-read rows (codes "tbody" ∷ c) h.2 l (omega arith),
+        inr (refl, e),
+      ),
+    )
+    tree-read (text u) c last h l m e =
         let d = text-denotes u (text-lacks u l) in
         let raw : holds_raw_text scripting (parent_name c) ≡ false =
         (or_parts (is_among (codes "title" ∷ codes "textarea" ∷ []) (parent_name c))
         (holds_raw_text scripting (parent_name c)) h.1.0).1 in
         (h.0, lacking_run scripting (parent_name c) (escaped u) d.1, rw raw d.0, h.1.1, omega arith)
-    tree-read (element k n attributes ks) c last h l m = (
+    tree-read (element k n attributes ks) c last h l m z = (
       h.0,
       omega arith,
       inl (test (is_void n)
@@ -110,24 +180,43 @@ module _ (scripting : Bool) where
             start-tag k n attributes h.1 (tag-pairs k n attributes h.2.0 p.0) h.2.1,
             rw v (
               subst (λ s. ReadsForest (project scripting) (n ∷ c) true (value_forest ks) s) (sym e.0)
-                  (trees-read ks (n ∷ c) true e.1 p.1 (omega arith)),
+                  (trees-read ks (n ∷ c) e.1 p.1 (omega arith)),
               end-tag n h.1,
             ),
           ))),
     )
+    tree-read (lone n attributes s) c last h l m e =
+        let q = lacks-parts 13 (tag spaced n attributes ++ escaped_text s) (end_tag n) l in
+        let p = lacks-parts 13 (tag spaced n attributes) (escaped_text s) q.0 in
+        let v = h.3 in (
+          h.0,
+          omega arith,
+          inl (
+            tag spaced n attributes,
+            escaped_text s,
+            end_tag n,
+            append_assoc (tag spaced n attributes) (escaped_text s) (end_tag n),
+            start-tag spaced n attributes h.1 (tag-pairs spaced n attributes h.2.0 p.0) h.2.1,
+            rw v (
+              subst (λ x. ReadsForest (project scripting) (n ∷ c) true (lone_text s) x) (sym h.4)
+                  (lone-read s (n ∷ c) h.5 (written-lacks s p.1) (omega arith)),
+              end-tag n h.1,
+            ),
+          ),
+        )
 
     -- what is spelled denotes the trees
-    pub trees-read : (ts : SpelledForest) (c : Context) (last : Bool) → Fits c ts
+    pub trees-read : (ts : SpelledForest) (c : Context) → Fits c ts
         → lacks 13 (all_spelled ts) ≡ true → length c + levels ts ≤ 1025
-        → ReadsForest (project scripting) c last (value_forest ts) (all_spelled ts)
-    trees-read none c last h l m = refl
-    trees-read (more t ts) c last h l m =
+        → ReadsForest (project scripting) c true (value_forest ts) (all_spelled ts)
+    trees-read none c h l m = refl
+    trees-read (more t ts) c h l m =
         let p = lacks-parts 13 (spelled t) (all_spelled ts) l in (
           spelled t,
           all_spelled ts,
           refl,
           same-apart t ts h.1,
-          tree-read t c (may_end_rows last (value_forest ts) (all_spelled ts)) h.0 p.0
-              (first (levels_of t) (levels ts) (length c) 1025 m),
-          trees-read ts c last h.2 p.1 (second (levels_of t) (levels ts) (length c) 1025 m),
+          tree-read t c (may_end_rows true (value_forest ts) (all_spelled ts)) h.0 p.0
+              (first (levels_of t) (levels ts) (length c) 1025 m) (is-last t ts h.1),
+          trees-read ts c h.2 p.1 (second (levels_of t) (levels ts) (length c) 1025 m),
         )

@@ -2,7 +2,7 @@
 use Rattle.std.proofs.Common.{◌≡◌, ℕ, Bool, true, false, List, [], ◌∷◌, ◌++◌, refl, sym, ap, ◌∙◌, codes, Option, Some}
 use Rattle.std.proofs.Common.{None, drop, subst}
 use Rattle.std.specs.List.{list_all}
-use Rattle.std.specs.Prelude.{⊤, not, ◌&&◌}
+use Rattle.std.specs.Prelude.{⊤, not, ◌&&◌, if◌then◌else◌}
 use Rattle.std.specs.Str.{bytes_eq}
 use Rattle.std.proofs.lemmas.Bool.{and_parts, not-true}
 use Rattle.std.proofs.lemmas.List.{append_assoc, append-nil}
@@ -12,6 +12,8 @@ use Rattle.htmd_lexical.specs.AttributePairs.{AttributePair}
 use Rattle.htmd_lexical.specs.Attributes.{attribute_names}
 use Rattle.htmd_lexical.specs.CharacterClasses.{are_distinct, is_among}
 use Rattle.htmd_values.specs.Serialisation.{is_void, end_tag}
+use Rattle.htmd_grammar.specs.Nesting.{is_tbody}
+use Rattle.htmd_grammar.proofs.NestingLemmas.{among_passes}
 use Rattle.htmd_document.specs.Tags.{anchor_tag, abbreviation_tag, escaped_value, end_of_anchor}
 use Rattle.htmd_commonmark_reading.specs.Anchors.{value, anchor_id, abbreviation_title}
 use Rattle.htmd_commonmark_reading.specs.SeenMarkup.{Tag, tags, abbreviation, closing_tag, role_among, role_by_title}
@@ -34,6 +36,26 @@ IsRaw s (opening n attributes) =
 IsRaw s (closing n) = (s ≡ end_tag n) × (is_among raw_names n ≡ true)
 IsRaw s (breaking form) = s ≡ tag form (codes "br") []
 IsRaw s unknown = ⊤
+
+-- what is written at the end of an element: nothing for the section of a table
+abbrev pub end_of_open : List ℕ → List ℕ
+end_of_open n = if is_tbody n then [] else end_tag n
+
+raw-no_section : (n : List ℕ) → is_among raw_names n ≡ true → is_tbody n ≡ false
+raw-no_section n e = not-true (is_tbody n) (among_passes (λ m. not (is_tbody m)) raw_names n e refl)
+
+-- the first of these alone
+abbrev pub IsTag : List ℕ → RawTag → Type 0
+IsTag s (opening n attributes) = (s ≡ tag spaced n attributes) × (is_void n ≡ false) × (is_tbody n ≡ false)
+IsTag s (closing n) = s ≡ end_of_open n
+IsTag s (breaking form) = s ≡ tag form (codes "br") []
+IsTag s unknown = ⊤
+
+pub raw-tagged : (r : RawTag) (s : List ℕ) → IsRaw s r → IsTag s r
+raw-tagged (opening n attributes) s k = (k.0, k.1, raw-no_section n k.2)
+raw-tagged (closing n) s k = rw (raw-no_section n k.1) k.0
+raw-tagged (breaking form) s k = k
+raw-tagged unknown s k = tt
 
 abbrev has_no_pairs : List AttributePair → Bool
 has_no_pairs [] = true
@@ -131,7 +153,7 @@ raw-is s = by_id (anchor_id s) s refl
 
 abbrev pub behind_spelled : List Behind → List ℕ
 behind_spelled [] = []
-behind_spelled (b ∷ bs) = end_tag b.name ++ all_spelled b.trees ++ behind_spelled bs
+behind_spelled (b ∷ bs) = end_of_open b.name ++ all_spelled b.trees ++ behind_spelled bs
 
 abbrev pub open_spelled : Open → List ℕ
 open_spelled o = all_spelled o.first ++ behind_spelled o.behind
@@ -152,7 +174,7 @@ closed t f e x b html rest h = simp append_assoc (ap (λ s. t ++ s) (flat ∙ h 
     flat = simp append_assoc
 
 opened-ok : (n : List ℕ) (attributes : List AttributePair) (s html rest : List ℕ) (first : SpelledForest)
-    (behind : List Behind) (ms ns : List (List ℕ)) → IsRaw s (opening n attributes)
+    (behind : List Behind) (ms ns : List (List ℕ)) → IsTag s (opening n attributes)
     → names_of behind ≡ ms → opened_names n ms ≡ Some ns
     → all_spelled first ++ behind_spelled behind ≡ html ++ rest
     → IsOpen (opened n attributes first behind) ns ((s ++ html) ++ rest)
@@ -165,9 +187,11 @@ opened-ok n attributes s html rest first (b ∷ bs) (m ∷ ms) ns r e f h =
     let left : ms ≡ ns = cc in
     let same : names_of bs ≡ ms = cc in
     let name : b.name ≡ n = (let x : b.name ≡ m = cc in x ∙ same_bytes m n t) in
+    let whole : all_spelled first ++ ((end_of_open n ++ all_spelled b.trees) ++ behind_spelled bs) ≡ html ++ rest =
+    subst (λ x. all_spelled first ++ ((end_of_open x ++ all_spelled b.trees) ++ behind_spelled bs) ≡ html ++ rest)
+    name h in
     let k : all_spelled first ++ ((end_tag n ++ all_spelled b.trees) ++ behind_spelled bs) ≡ html ++ rest =
-    subst (λ x. all_spelled first ++ ((end_tag x ++ all_spelled b.trees) ++ behind_spelled bs) ≡ html ++ rest)
-    name h in (
+    rw r.2 at whole in (
       same ∙ left,
       ap (λ x. (x ++ all_spelled b.trees) ++ behind_spelled bs) (element-spelled spaced n attributes first r.1)
           ∙ (closed (tag spaced n attributes) (all_spelled first) (end_tag n) (all_spelled b.trees)
@@ -178,7 +202,7 @@ opened-ok n attributes s html rest first (b ∷ bs) (m ∷ ms) ns r e f h =
 
 -- a raw tag before what is open
 pub raw-ok : (r : RawTag) (s html rest : List ℕ) (o : Open) (left : Option (List (List ℕ))) (ns : List (List ℕ))
-    → IsRaw s r → names_with r left ≡ Some ns
+    → IsTag s r → names_with r left ≡ Some ns
     → ((ms : List (List ℕ)) → left ≡ Some ms → IsOpen o ms (html ++ rest))
     → IsOpen (with_raw r o) ns ((s ++ html) ++ rest)
 unfolding is_void
@@ -189,9 +213,9 @@ raw-ok (closing n) s html rest o (Some ms) ns k e h =
     let i = h ms refl in
     let x : n ∷ ms ≡ ns = cc in (
       ap (λ y. n ∷ y) i.0 ∙ x,
-      append_assoc (end_tag n) (all_spelled o.first) (behind_spelled o.behind)
-          ∙ (ap (λ y. end_tag n ++ y) i.1
-          ∙ (sym (append_assoc (end_tag n) html rest) ∙ ap (λ y. (y ++ html) ++ rest) (sym k.0))),
+      append_assoc (end_of_open n) (all_spelled o.first) (behind_spelled o.behind)
+          ∙ (ap (λ y. end_of_open n ++ y) i.1
+          ∙ (sym (append_assoc (end_of_open n) html rest) ∙ ap (λ y. (y ++ html) ++ rest) (sym k))),
     )
 raw-ok (breaking form) s html rest o (Some ms) ns k e h =
     let i = h ms refl in

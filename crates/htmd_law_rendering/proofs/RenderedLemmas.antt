@@ -1,6 +1,6 @@
 -- The HTML of what is read is what its trees are spelled as: by its structure.
 use Rattle.std.proofs.Common.{◌≡◌, ℕ, Bool, true, false, List, [], ◌∷◌, ◌++◌, drop, refl, sym, ap, ◌∙◌, codes, Option}
-use Rattle.std.proofs.Common.{Some, None}
+use Rattle.std.proofs.Common.{Some, None, subst}
 use Rattle.std.specs.Fmt.{decimal}
 use Rattle.std.specs.List.{flat_map}
 use Rattle.std.specs.Prelude.{◌==◌}
@@ -8,15 +8,19 @@ use Rattle.std.proofs.lemmas.Bool.{and_parts}
 use Rattle.std.proofs.lemmas.List.{append_assoc, append-nil}
 use Rattle.htmd_lexical.proofs.Cases.{test}
 use Rattle.htmd_values.specs.Serialisation.{is_void, end_tag}
+use Rattle.htmd_document.specs.FlatDocuments.{lines_of}
 use Rattle.htmd_document.specs.declared.document.Alignment.{Alignment}
 use Rattle.htmd_document.specs.declared.document.Alignment.TheVariants as aligned
-use Rattle.htmd_commonmark_reading.specs.Markup.{Inlines, no_inlines, letter, code, formatted, link, image, line_break}
+use Rattle.htmd_commonmark_reading.specs.Markup.{Inlines, no_inlines, letter, code, formatted, link, image}
+use Rattle.htmd_commonmark_reading.specs.Markup.{line_break}
 use Rattle.htmd_commonmark_reading.specs.Markup.{task, raw, Block, paragraph, heading, code_block, quote}
 use Rattle.htmd_commonmark_reading.specs.Markup.{thematic_break, list, table, html_block, Blocks, no_blocks, block}
 use Rattle.htmd_commonmark_reading.specs.Markup.{Items, no_items, item, plain_text}
-use Rattle.htmd_commonmark_reading.specs.Rendering.{escaped_byte, escaped, code_html, formatted_html, link_html, image_html}
+use Rattle.htmd_commonmark_reading.specs.Rendering.{escaped_byte, escaped, code_html, formatted_html, link_html}
+use Rattle.htmd_commonmark_reading.specs.Rendering.{image_html}
 use Rattle.htmd_commonmark_reading.specs.Rendering.{box_html, inlines_html, first_alignment, cell_tag}
-use Rattle.htmd_commonmark_reading.specs.Rendering.{end_of_cell, cell_html, cells_html, row_html, rows_html, body_html}
+use Rattle.htmd_commonmark_reading.specs.Rendering.{end_of_cell, cell_html, cells_html, row_html, rows_html}
+use Rattle.htmd_commonmark_reading.specs.Rendering.{body_html}
 use Rattle.htmd_commonmark_reading.specs.Rendering.{head_html, table_html, heading_html, heading_tag, end_of_heading}
 use Rattle.htmd_commonmark_reading.specs.Rendering.{language_attribute, code_lines, list_tag}
 use Rattle.htmd_commonmark_reading.specs.Rendering.{end_of_list, item_html, is_bare, line_end_before}
@@ -27,16 +31,21 @@ use Rattle.htmd_law_rendering.specs.RenderedTrees.{row_trees, rows_trees, body_t
 use Rattle.htmd_law_rendering.specs.RenderedTrees.{heading_name, pairs_of_language, code_trees, code_block_tree}
 use Rattle.htmd_law_rendering.specs.RenderedTrees.{list_name, pairs_of_start, begun_line, block_trees, blocks_trees}
 use Rattle.htmd_law_rendering.specs.RenderedTrees.{items_trees}
-use Rattle.htmd_law_rendering.specs.SpelledTrees.{spaced, SpelledForest, none, more, element, attribute_in, tag, spelled}
+use Rattle.htmd_law_rendering.specs.SpelledTrees.{spaced, SpelledForest, none, more, element, attribute_in, tag}
+use Rattle.htmd_law_rendering.specs.SpelledTrees.{spelled}
 use Rattle.htmd_law_rendering.specs.SpelledTrees.{all_spelled}
 use Rattle.htmd_law_rendering.specs.PlainReadings.{if_all_opened, unopened, is_nothing_left, are_paired}
 use Rattle.htmd_law_rendering.specs.PlainReadings.{cells_are_paired, rows_are_paired, block_is_paired}
-use Rattle.htmd_law_rendering.specs.PlainReadings.{blocks_are_paired, items_are_paired}
+use Rattle.htmd_law_rendering.specs.PlainReadings.{names_with_html, blocks_unopened, each_is_paired}
+use Rattle.htmd_law_rendering.specs.PlainReadings.{blocks_are_paired}
+use Rattle.htmd_law_rendering.specs.PlainReadings.{items_are_paired}
 use Rattle.htmd_law_rendering.specs.RawTags.{raw_tag}
-use Rattle.htmd_law_rendering.specs.RenderedTrees.{Open, Behind, inlines_open}
+use Rattle.htmd_law_rendering.specs.RenderedTrees.{Open, Behind, inlines_open, onto, with_lines, with_html}
+use Rattle.htmd_law_rendering.specs.RenderedTrees.{blocks_open}
 use Rattle.htmd_law_rendering.specs.RenderingLaws.{RenderedIsSpelled}
 use Rattle.htmd_law_rendering.proofs.ByteLemmas.{decimal-stays}
-use Rattle.htmd_law_rendering.proofs.RawLemmas.{raw-is, behind_spelled, names_of, IsOpen, raw-ok}
+use Rattle.htmd_law_rendering.proofs.LineLemmas.{lines-ok, split-ended}
+use Rattle.htmd_law_rendering.proofs.RawLemmas.{raw-is, raw-tagged, behind_spelled, names_of, IsOpen, raw-ok}
 use Rattle.htmd_law_rendering.proofs.SpellingLemmas.{text-spelled, lines-spelled, line-spelled}
 use Rattle.htmd_law_rendering.proofs.SpellingLemmas.{code-spelled, format-spelled, link-spelled, image-spelled}
 use Rattle.htmd_law_rendering.proofs.SpellingLemmas.{box-spelled, heading-not-void}
@@ -143,8 +152,8 @@ inlines-open (task d xs) rest ns h =
           (all_spelled rest) refl i.1,
     )
 inlines-open (raw s xs) rest ns h =
-    raw-ok (raw_tag s) s (inlines_html xs) (all_spelled rest) (inlines_open xs rest) (unopened xs) ns (raw-is s) h
-    (λ ms e. inlines-open xs rest ms e)
+    raw-ok (raw_tag s) s (inlines_html xs) (all_spelled rest) (inlines_open xs rest) (unopened xs) ns
+    (raw-tagged (raw_tag s) s (raw-is s)) h (λ ms e. inlines-open xs rest ms e)
 
 pub inlines : (xs : Inlines) (rest : SpelledForest) → are_paired xs ≡ true
     → all_spelled (inlines_trees xs rest) ≡ inlines_html xs ++ all_spelled rest
@@ -305,11 +314,61 @@ a_heading level xs rest h =
     tags =
         rw (heading-not-void level) (ap (λ s. s ++ codes ">") (append-nil (codes "<h" ++ decimal level)))
 
+-- the HTML of a block that isn't an HTML block, and that of one that is
+abbrev own_html : Bool → Block → List ℕ
+own_html tight (html_block s) = []
+own_html tight b = block_html tight b
+
+abbrev tag_html : Block → List ℕ
+tag_html (html_block s) = s ++ codes "\n"
+tag_html b = []
+
+together : (tight : Bool) (b : Block) (begin rest : List ℕ)
+    → (begin ++ own_html tight b) ++ (tag_html b ++ rest) ≡ begin ++ block_html tight b ++ rest
+together tight (paragraph xs) begin rest = refl
+together tight (heading level xs) begin rest = refl
+together tight (code_block l s) begin rest = refl
+together tight (quote bs) begin rest = refl
+together tight thematic_break begin rest = refl
+together tight (list start is_tight items) begin rest = refl
+together tight (table alignments header rs) begin rest = refl
+together tight (html_block s) begin rest = simp (append_assoc, append-nil)
+
+with-html : (b : Block) (html : List ℕ) (o : Open) (left : Option (List (List ℕ))) (ns : List (List ℕ))
+    → names_with_html b left ≡ Some ns → ((ms : List (List ℕ)) → left ≡ Some ms → IsOpen o ms html)
+    → IsOpen (with_html b o) ns (tag_html b ++ html)
+with-html (paragraph xs) html o left ns e h = h ns e
+with-html (heading level xs) html o left ns e h = h ns e
+with-html (code_block l s) html o left ns e h = h ns e
+with-html (quote bs) html o left ns e h = h ns e
+with-html thematic_break html o left ns e h = h ns e
+with-html (list start is_tight items) html o left ns e h = h ns e
+with-html (table alignments header rs) html o left ns e h = h ns e
+with-html (html_block s) html o left ns e h =
+    subst (λ x. IsOpen (with_lines (lines_of s) o) ns (x ++ html)) (split-ended s)
+    (lines-ok (lines_of s) html o left ns e h)
+
+-- before what is open, something that is spelled so before trees
+before-open : (f : SpelledForest → SpelledForest) (s html : List ℕ) (o : Open) (ns : List (List ℕ))
+    → all_spelled (f o.first) ≡ s ++ all_spelled o.first → IsOpen o ns html → IsOpen (onto f o) ns (s ++ html)
+before-open f s html o ns h i = (
+  i.0,
+  ap (λ x. x ++ behind_spelled o.behind) h
+      ∙ (append_assoc s (all_spelled o.first) (behind_spelled o.behind) ∙ ap (λ x. s ++ x) i.1),
+)
+
+-- nothing is left open
+pub pairs-end : (bs : Blocks) → blocks_are_paired bs ≡ true
+    → (blocks_unopened bs ≡ Some []) × (each_is_paired bs ≡ true)
+pairs-end bs h =
+    let p = and_parts (is_nothing_left (blocks_unopened bs)) (each_is_paired bs) h in
+    (nothing-left (blocks_unopened bs) p.0, p.1)
+
 mutual
   unfolding is_void
 
   one_block : (tight : Bool) (b : Block) (rest : SpelledForest) → block_is_paired b ≡ true
-      → all_spelled (block_trees tight b rest) ≡ block_html tight b ++ all_spelled rest
+      → all_spelled (block_trees tight b rest) ≡ own_html tight b ++ all_spelled rest
   one_block true (paragraph xs) rest h = inlines xs rest h
   one_block false (paragraph xs) rest h =
       line-spelled (codes "p") [] (inlines_trees xs none) rest (inlines_html xs) (codes "</p>\n") refl refl
@@ -322,7 +381,9 @@ mutual
       ∙ ap (λ x. x ++ all_spelled rest) (fence_end (language_attribute l) (code_lines s))
   one_block tight (quote bs) rest h =
       lines-spelled (codes "blockquote") [] (blocks_trees false false bs) rest (codes "<blockquote>\n")
-      (blocks_html false false bs) (codes "</blockquote>\n") refl refl refl (all_blocks false false bs h)
+      (blocks_html false false bs) (codes "</blockquote>\n") refl refl refl
+      (let p = pairs-end bs h in
+      closed-with (blocks_open false false bs) (blocks_html false false bs) (open_blocks false false bs [] p.0 p.1))
   one_block tight thematic_break rest h = ap (λ s. codes "<hr />" ++ s) (text-spelled (codes "\n") rest)
   one_block tight (list start is_tight items) rest h =
       lines-spelled (list_name start) (pairs_of_start start) (items_trees is_tight items) rest (list_tag start)
@@ -331,28 +392,41 @@ mutual
   one_block tight (table alignments header rs) rest h =
       let p = and_parts (cells_are_paired header) (rows_are_paired rs) h in
       a_table alignments header rs rest p.0 p.1
-  one_block tight (html_block s) rest h = absurd (cc)
+  one_block tight (html_block s) rest h = refl
 
-  all_blocks : (tight l : Bool) (bs : Blocks) → blocks_are_paired bs ≡ true
-      → all_spelled (blocks_trees tight l bs) ≡ blocks_html tight l bs
-  all_blocks tight l no_blocks h = refl
-  all_blocks tight l (block b bs) h =
-      let p = and_parts (block_is_paired b) (blocks_are_paired bs) h in
-      let behind = blocks_trees tight (is_bare tight b) bs in
-      begun l (is_bare tight b) (block_trees tight b behind)
-      ∙ (ap (λ s. line_end_before l (is_bare tight b) ++ s)
-      (one_block tight b behind p.0 ∙ ap (λ s. block_html tight b ++ s) (all_blocks tight (is_bare tight b) bs p.1))
-      ∙ sym (append_assoc (line_end_before l (is_bare tight b)) (block_html tight b)
-      (blocks_html tight (is_bare tight b) bs)))
+  pub open_blocks : (tight l : Bool) (bs : Blocks) (ns : List (List ℕ)) → blocks_unopened bs ≡ Some ns
+      → each_is_paired bs ≡ true → IsOpen (blocks_open tight l bs) ns (blocks_html tight l bs)
+  open_blocks tight l no_blocks ns e h = (let x : [] ≡ ns = cc in x, refl)
+  open_blocks tight l (block b bs) ns e h =
+      let p = and_parts (block_is_paired b) (each_is_paired bs) h in
+      let bare = is_bare tight b in
+      let behind = blocks_open tight bare bs in
+      let html = blocks_html tight bare bs in
+      let tags = with-html b html behind (blocks_unopened bs) ns e (λ ms f. open_blocks tight bare bs ms f p.1) in
+      let o = with_html b behind in
+      let all = before-open (λ ts. begun_line l bare (block_trees tight b ts))
+      (line_end_before l bare ++ own_html tight b) (tag_html b ++ html) o ns
+      (begun l bare (block_trees tight b o.first)
+      ∙ (ap (λ s. line_end_before l bare ++ s) (one_block tight b o.first p.0)
+      ∙ sym (append_assoc (line_end_before l bare) (own_html tight b) (all_spelled o.first)))) tags in
+      subst (IsOpen (blocks_open tight l (block b bs)) ns) (together tight b (line_end_before l bare) html) all
 
   all_items : (tight : Bool) (items : Items) → items_are_paired items ≡ true
       → all_spelled (items_trees tight items) ≡ items_html tight items
   all_items tight no_items h = refl
   all_items tight (item bs rest) h =
       let p = and_parts (blocks_are_paired bs) (items_are_paired rest) h in
+      let q = pairs-end bs p.0 in
       line-spelled (codes "li") [] (blocks_trees tight true bs) (items_trees tight rest) (blocks_html tight true bs)
-      (codes "</li>\n") refl refl (all_blocks tight true bs p.0)
+      (codes "</li>\n") refl refl
+      (closed-with (blocks_open tight true bs) (blocks_html tight true bs) (open_blocks tight true bs [] q.0 q.1))
       ∙ ap (λ s. item_html (blocks_html tight true bs) ++ s) (all_items tight rest p.1)
+
+all_blocks : (tight l : Bool) (bs : Blocks) → blocks_are_paired bs ≡ true
+    → all_spelled (blocks_trees tight l bs) ≡ blocks_html tight l bs
+all_blocks tight l bs h =
+    let p = pairs-end bs h in
+    closed-with (blocks_open tight l bs) (blocks_html tight l bs) (open_blocks tight l bs [] p.0 p.1)
 
 pub rendered : RenderedIsSpelled
 rendered bs h = sym (all_blocks false false bs h)

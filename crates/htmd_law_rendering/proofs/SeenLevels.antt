@@ -5,7 +5,8 @@ use Rattle.std.specs.Prelude.{⊤}
 use Rattle.std.specs.Str.{bytes_eq}
 use Rattle.htmd_lexical.proofs.Cases.{test}
 use Rattle.htmd_lexical.specs.AttributePairs.{AttributePair}
-use Rattle.htmd_commonmark_reading.specs.Markup.{Inlines, no_inlines, letter, code, formatted, link, image, line_break}
+use Rattle.htmd_commonmark_reading.specs.Markup.{Inlines, no_inlines, letter, code, formatted, link, image}
+use Rattle.htmd_commonmark_reading.specs.Markup.{line_break}
 use Rattle.htmd_commonmark_reading.specs.Markup.{task, raw, joined, letters, plain_text}
 use Rattle.htmd_commonmark_reading.specs.SeenMarkup.{Pair, format_pair, code_pair, Tag, closing_tag, Role, opens}
 use Rattle.htmd_commonmark_reading.specs.SeenMarkup.{closes}
@@ -13,10 +14,12 @@ use Rattle.htmd_commonmark_reading.specs.SeenMarkup.{breaks, stays, role, Tags, 
 use Rattle.htmd_commonmark_reading.specs.SeenMarkup.{is_text_alone, paired, closed_tag, with_raw, seen, seen_inlines}
 use Rattle.htmd_law_rendering.specs.RawTags.{closing, tag_by_role, pairs_of, form_of_break}
 use Rattle.htmd_law_rendering.specs.RenderedTrees as trees
-use Rattle.htmd_law_rendering.specs.RenderedTrees.{text_before, line_end, element_before, format_name, pairs_of_format}
+use Rattle.htmd_law_rendering.specs.RenderedTrees.{text_before, line_end, element_before, format_name}
+use Rattle.htmd_law_rendering.specs.RenderedTrees.{pairs_of_format}
 use Rattle.htmd_law_rendering.specs.RenderedTrees.{pairs_of_link, pairs_of_image, pairs_of_box, Behind, Open, onto}
 use Rattle.htmd_law_rendering.specs.RenderedTrees.{opened, inlines_open, inlines_trees}
-use Rattle.htmd_law_rendering.specs.SpelledTrees.{SpelledForest, text, element, none, more, short, levels}
+use Rattle.htmd_law_rendering.specs.SpelledTrees.{SpelledForest, text, element, lone, section, none, more, short}
+use Rattle.htmd_law_rendering.specs.SpelledTrees.{levels}
 use Rattle.htmd_law_rendering.specs.PlainReadings.{unopened}
 use Rattle.htmd_law_rendering.proofs.RawLemmas.{names_of}
 use Rattle.htmd_law_rendering.proofs.RenderedLemmas.{inlines-open}
@@ -102,20 +105,23 @@ text-levels [] ts = omega arith
 text-levels (b ∷ s) none = omega arith
 text-levels (b ∷ s) (more (text u) ts) = omega arith
 text-levels (b ∷ s) (more (element form n attributes content) ts) = omega arith
+text-levels (b ∷ s) (more (lone n attributes u) ts) = omega arith
+text-levels (b ∷ s) (more (section rows) ts) = omega arith
 
-length-named : (bs : List Behind) → length bs ≡ length (names_of bs)
+pub length-named : (bs : List Behind) → length bs ≡ length (names_of bs)
 length-named [] = refl
 length-named (b ∷ bs) = ap suc (length-named bs)
 
-abbrev LowBehind : ℕ → List Behind → Type 0
+abbrev pub LowBehind : ℕ → List Behind → Type 0
 LowBehind e [] = ⊤
 LowBehind e (b ∷ bs) = (length bs + levels b.trees ≤ e) × LowBehind e bs
 
 -- each part within the elements that are still to be opened
-abbrev LowOpen : ℕ → Open → Type 0
+abbrev pub LowOpen : ℕ → Open → Type 0
 LowOpen e o = (length o.behind + levels o.first ≤ e) × LowBehind e o.behind
 
-opened-low : (e : ℕ) (n : List ℕ) (attributes : List AttributePair) (first : SpelledForest) (behind : List Behind)
+pub opened-low : (e : ℕ) (n : List ℕ) (attributes : List AttributePair) (first : SpelledForest)
+    (behind : List Behind)
     (m : List ℕ) (ms : List (List ℕ)) → names_of behind ≡ m ∷ ms
     → LowOpen e (record { first = first; behind = behind }) → LowOpen e (opened n attributes first behind)
 opened-low e n attributes first [] m ms k h = absurd (cc)

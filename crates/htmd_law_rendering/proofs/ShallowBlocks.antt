@@ -4,23 +4,24 @@ use Rattle.std.proofs.Common.{◌∙◌, drop, Option, Some, None, codes, length
 use Rattle.std.specs.List.{list_all}
 use Rattle.std.specs.Prelude.{⊤, ◌||◌, ◌==◌, nat_le}
 use Rattle.std.proofs.lemmas.Bool.{and_parts}
-use Rattle.std.proofs.lemmas.Bool.Decides.{nat_tests}
 use Rattle.htmd_lexical.proofs.Cases.{test}
 use Rattle.htmd_document.specs.declared.document.Alignment.{Alignment}
-use Rattle.htmd_document.specs.DocumentLimits.{most_nested}
 use Rattle.htmd_document.specs.Documents as document
-use Rattle.htmd_document.specs.FlatDocuments.{flat_items}
+use Rattle.htmd_document.specs.FlatDocuments.{lines_of}
 use Rattle.htmd_document.specs.NormalInlines as normal
 use Rattle.htmd_document.specs.NormalInlines.{is_normal_line, is_normal_item, are_anchors, anchors_stand_well}
-use Rattle.htmd_document.specs.NormalDocuments.{is_normal_paragraph, is_level, is_normal_heading, has_cell, ends_filled}
-use Rattle.htmd_document.specs.NormalDocuments.{are_normal_cells, is_normal_row, is_normal_list, is_normal_block}
-use Rattle.htmd_document.specs.NormalDocuments.{are_normal_blocks, are_normal_items, IsNormal}
-use Rattle.htmd_document.specs.NormalDocuments.{depth_of, depth_among, depth_of_items}
+use Rattle.htmd_document.specs.NormalDocuments.{is_normal_paragraph, is_level, is_normal_heading, has_cell}
+use Rattle.htmd_document.specs.NormalDocuments.{ends_filled}
+use Rattle.htmd_document.specs.NormalDocuments.{are_normal_cells, is_normal_row, is_normal_list, is_flat_block}
+use Rattle.htmd_document.specs.NormalDocuments.{are_flat_blocks, are_flat_items, IsFlat}
 use Rattle.htmd_document.specs.TightItems.{is_filled}
-use Rattle.htmd_commonmark_reading.specs.Markup.{Inlines, no_inlines, letter, code, formatted, link, image, line_break}
+use Rattle.htmd_commonmark_reading.specs.Markup.{Inlines, no_inlines, letter, code, formatted, link, image}
+use Rattle.htmd_commonmark_reading.specs.Markup.{line_break}
 use Rattle.htmd_commonmark_reading.specs.Markup.{task, raw, Block, paragraph, heading, code_block, quote, plain_text}
 use Rattle.htmd_commonmark_reading.specs.Markup.{thematic_break, list, table, html_block, Blocks, no_blocks, block}
 use Rattle.htmd_commonmark_reading.specs.Markup.{Items, no_items, item}
+use Rattle.htmd_commonmark_reading.specs.Elements.{Stack, outside, with_block, nested_block, nested, nested_items}
+use Rattle.htmd_commonmark_reading.specs.Elements.{nested_document}
 use Rattle.htmd_commonmark_reading.specs.Rendering.{is_bare}
 use Rattle.htmd_commonmark_reading.specs.SeenMarkup.{seen_inlines, seen_row, seen_rows, has_none, has_no_cell}
 use Rattle.htmd_commonmark_reading.specs.SeenMarkup.{filled_front, without_empty_end, seen_block, seen_blocks}
@@ -32,12 +33,17 @@ use Rattle.htmd_commonmark_reading.specs.Anchors.{anchor_id}
 use Rattle.htmd_law_rendering.specs.RenderedTrees.{inlines_trees, cells_trees, row_trees, rows_trees}
 use Rattle.htmd_law_rendering.specs.RenderedTrees.{body_trees, lines_before, code_trees, begun_line, block_trees}
 use Rattle.htmd_law_rendering.specs.RenderedTrees.{blocks_trees}
-use Rattle.htmd_law_rendering.specs.RenderedTrees.{items_trees, spelled_of}
+use Rattle.htmd_law_rendering.specs.RenderedTrees.{items_trees, spelled_of, Open, with_html, blocks_open}
 use Rattle.htmd_law_rendering.specs.SpelledTrees.{SpelledForest, none, levels}
+use Rattle.htmd_law_rendering.specs.PlainReadings.{tree_depth, trees_depth, items_depth}
 use Rattle.htmd_law_rendering.proofs.PairedLemmas.{is_end, nothing-left}
-use Rattle.htmd_law_rendering.proofs.PairedBlocks.{both-some, one-some, two-some, no-cells}
+use Rattle.htmd_law_rendering.proofs.PairedBlocks.{both-some, one-some, two-some, no-cells, Stepped, parts, no-parts}
+use Rattle.htmd_law_rendering.proofs.NestedStacks.{Matches, same-names, few-names, open_levels, StackIsLow, few-open}
+use Rattle.htmd_law_rendering.proofs.NestedStacks.{block-low}
+use Rattle.htmd_law_rendering.proofs.RawLemmas.{names_of}
+use Rattle.htmd_law_rendering.proofs.ShallowLines.{IsLow, lines-low}
 use Rattle.htmd_law_rendering.proofs.DocumentLevels.{inline_depth, line_depth, line-low, item-low}
-use Rattle.htmd_law_rendering.proofs.SeenLevels.{depth, text-levels, inlines-low}
+use Rattle.htmd_law_rendering.proofs.SeenLevels.{depth, text-levels, inlines-low, length-named}
 
 -- ---- the document of what is seen is as deep
 
@@ -269,90 +275,155 @@ begun-levels true true ts = omega arith
 begun-levels true false ts = text-levels (codes "\n") ts
 begun-levels false bare ts = omega arith
 
--- a table is four levels deeper than its lines, lists and quotes two and one
-abbrev most : ℕ → ℕ
-most n = n + n + 24
+-- ---- what a block makes of the stack
+
+-- one that is added
+added-low : (n : ℕ) (o p : Stack) (e : document.Block) → with_block o e ≡ p → StackIsLow n p
+    → StackIsLow n o × (open_levels o + tree_depth e ≤ n)
+added-low n o p e k h = block-low n o e (subst (StackIsLow n) (sym k) h)
+
+-- what is open before it
+added-open : (n : ℕ) (o p : Stack) (e : document.Block) (t : Open) → with_block o e ≡ p → IsLow n t p
+    → IsLow n t o
+added-open n o p e t k h = (
+  h.0,
+  same-names (names_of t.behind) o e (subst (Matches (names_of t.behind)) (sym k) h.1),
+  (added-low n o p e k h.2).0,
+)
+
+-- lines of tags before what is open
+html-low : (n : ℕ) (b : Block) (d : document.Block) (o p : Stack) (t : Open) → Stepped b d o p → IsLow n t p
+    → IsLow n (with_html b t) o
+html-low n (paragraph xs) d o p t k h = added-open n o p k.0 t k.2 h
+html-low n (heading level xs) d o p t k h = added-open n o p k.0 t k.2 h
+html-low n (code_block language s) d o p t k h = added-open n o p k.0 t k.2 h
+html-low n (quote bs) d o p t k h = added-open n o p k.0 t k.2 h
+html-low n thematic_break d o p t k h = added-open n o p k.0 t k.2 h
+html-low n (list start tight items) d o p t k h = added-open n o p k.0 t k.2 h
+html-low n (table alignments header rows) d o p t k h = added-open n o p k.0 t k.2 h
+html-low n (html_block s) d o p t k h = lines-low n (lines_of s) o p t k h
+
+-- so many elements are open around a leaf
+around-leaf : (n k : ℕ) (o p : Stack) (e : document.Block) → with_block o e ≡ p → StackIsLow n p
+    → k ≤ open_levels o
+    → k ≤ n
+around-leaf n k o p e w h l = let m = (added-low n o p e w h).1 in omega (arith, l, m)
+
+-- ---- blocks
 
 mutual
-  block-levels : (in_item is_tight : Bool) (b : Block) (d : document.Block) (rest : SpelledForest)
-      → document_block (seen_block b) ≡ Some d → is_normal_block in_item d ≡ true
-      → levels (block_trees is_tight b rest) ≤ max (most (depth_of d)) (levels rest)
-  block-levels i true (paragraph xs) d rest e h =
+  -- a table is four levels deeper than its lines
+  block-levels : (n : ℕ) (i is_tight : Bool) (b : Block) (d : document.Block) (o p : Stack) (w : ℕ)
+      (rest : SpelledForest)
+      → document_block (seen_block b) ≡ Some d → is_flat_block i d ≡ true → Stepped b d o p → StackIsLow n p
+      → w ≤ open_levels o → w + levels rest ≤ n + 24
+      → w + levels (block_trees is_tight b rest) ≤ n + 24
+  block-levels n i true (paragraph xs) d o p w rest e h s low v r =
       let k = one-some document.paragraph (document_inlines (seen_inlines xs)) d e in
-      let l = line-levels xs k.0 rest k.1 (paragraph-low i k.0 (ap (is_normal_block i) k.2 ∙ h)) in omega (arith, l)
-  block-levels i false (paragraph xs) d rest e h =
+      let l = line-levels xs k.0 rest k.1 (paragraph-low i k.0 (ap (is_flat_block i) k.2 ∙ h)) in
+      let a = around-leaf n w o p s.0 s.2 low v in omega (arith, l, r, a)
+  block-levels n i false (paragraph xs) d o p w rest e h s low v r =
       let k = one-some document.paragraph (document_inlines (seen_inlines xs)) d e in
-      let l = line-levels xs k.0 none k.1 (paragraph-low i k.0 (ap (is_normal_block i) k.2 ∙ h)) in
-      let t = text-levels (codes "\n") rest in omega (arith, l, t)
-  block-levels i is_tight (heading level xs) d rest e h =
+      let l = line-levels xs k.0 none k.1 (paragraph-low i k.0 (ap (is_flat_block i) k.2 ∙ h)) in
+      let a = around-leaf n w o p s.0 s.2 low v in
+      let t = text-levels (codes "\n") rest in omega (arith, l, t, r, a)
+  block-levels n i is_tight (heading level xs) d o p w rest e h s low v r =
       let k = one-some (document.heading level) (document_inlines (seen_inlines xs)) d e in
-      let l = line-levels xs k.0 none k.1 (heading-low level k.0 (ap (is_normal_block i) k.2 ∙ h)) in
-      let t = text-levels (codes "\n") rest in omega (arith, l, t)
-  block-levels i is_tight (code_block language s) d rest e h =
-      let l = code-levels s in let t = text-levels (codes "\n") rest in omega (arith, l, t)
-  block-levels i is_tight (quote bs) d rest e h =
+      let l = line-levels xs k.0 none k.1 (heading-low level k.0 (ap (is_flat_block i) k.2 ∙ h)) in
+      let a = around-leaf n w o p s.0 s.2 low v in
+      let t = text-levels (codes "\n") rest in omega (arith, l, t, r, a)
+  block-levels n i is_tight (code_block language u) d o p w rest e h s low v r =
+      let l = code-levels u in
+      let a = around-leaf n w o p s.0 s.2 low v in
+      let t = text-levels (codes "\n") rest in omega (arith, l, t, r, a)
+  block-levels n i is_tight (quote bs) d o p w rest e h s low v r =
       let k = one-some document.quote (document_blocks (seen_blocks bs)) d e in
-      let l = blocks-levels false false false bs k.0 k.1
-      (and_parts (is_filled k.0) (are_normal_blocks false k.0) (ap (is_normal_block i) k.2 ∙ h)).1 in
-      let same = ap depth_of k.2 in
+      let m = one-some document.quote (nested (Some (outside document.no_blocks)) k.0) s.0
+      (ap nested_block k.2 ∙ s.1) in
+      let inner = blocks-levels (trees_depth m.0) false false false bs k.0 (outside document.no_blocks) m.0 k.1
+      (and_parts (is_filled k.0) (are_flat_blocks false k.0) (ap (is_flat_block i) k.2 ∙ h)).1 m.1 (omega arith) in
+      let l = inner.0.0 in
+      let same = ap tree_depth m.2 in
+      let a = (added-low n o p s.0 s.2 low).1 in
       let t = text-levels (codes "\n") (blocks_trees false false bs) in
-      let u = text-levels (codes "\n") rest in omega (arith, l, same, t, u)
-  block-levels i is_tight thematic_break d rest e h = let t = text-levels (codes "\n") rest in omega (arith, t)
-  block-levels i is_tight (list start tight items) d rest e h =
+      let u = text-levels (codes "\n") rest in omega (arith, l, same, a, t, u, r, v)
+  block-levels n i is_tight thematic_break d o p w rest e h s low v r =
+      let a = around-leaf n w o p s.0 s.2 low v in
+      let t = text-levels (codes "\n") rest in omega (arith, t, r, a)
+  block-levels n i is_tight (list start tight items) d o p w rest e h s low v r =
       let k = one-some (document.list start tight) (document_items (seen_items items)) d e in
-      let l = items-levels tight items k.0 k.1
-      (and_parts (is_normal_list start tight (flat_items k.0)) (are_normal_items k.0)
-      (ap (is_normal_block i) k.2 ∙ h)).1 in
-      let same = ap depth_of k.2 in
+      let m = one-some (document.list start tight) (nested_items k.0) s.0 (ap nested_block k.2 ∙ s.1) in
+      let l = items-levels tight items k.0 m.0 k.1
+      (and_parts (is_normal_list start tight k.0) (are_flat_items k.0) (ap (is_flat_block i) k.2 ∙ h)).1 m.1 in
+      let same = ap tree_depth m.2 in
+      let a = (added-low n o p s.0 s.2 low).1 in
       let t = text-levels (codes "\n") (items_trees tight items) in
-      let u = text-levels (codes "\n") rest in omega (arith, l, same, t, u)
-  block-levels i is_tight (table alignments header rows) d rest e h =
+      let u = text-levels (codes "\n") rest in omega (arith, l, same, a, t, u, r, v)
+  block-levels n i is_tight (table alignments header rows) d o p w rest e h s low v r =
       let k = two-some (document.table alignments) (document_row (seen_row header)) (document_rows (seen_rows rows))
       d e in
-      let p = and_parts (has_cell k.0 && (length alignments == length k.0) && are_normal_cells k.0)
-      (list_all (is_normal_row (length k.0)) k.1) (ap (is_normal_block i) k.4 ∙ h) in
-      let q = and_parts (has_cell k.0 && (length alignments == length k.0)) (are_normal_cells k.0) p.0 in
+      let q = and_parts (has_cell k.0 && (length alignments == length k.0) && are_normal_cells k.0)
+      (list_all (is_normal_row (length k.0)) k.1) (ap (is_flat_block i) k.4 ∙ h) in
+      let f = and_parts (has_cell k.0 && (length alignments == length k.0)) (are_normal_cells k.0) q.0 in
       let cells = row-levels (codes "th") alignments header none
-      (row-low header k.0 k.2 (lines_of_cells k.0 q.1)) in
-      let body = body-levels (length k.0) alignments rows k.1 k.3 p.1 in
+      (row-low header k.0 k.2 (lines_of_cells k.0 f.1)) in
+      let body = body-levels (length k.0) alignments rows k.1 k.3 q.1 in
+      let a = around-leaf n w o p s.0 s.2 low v in
       let t = text-levels (codes "\n") (row_trees (codes "th") alignments header none) in
       let u = text-levels (codes "\n") (body_trees alignments rows) in
-      let v = text-levels (codes "\n") (lines_before (codes "thead") [] (row_trees (codes "th") alignments header none)
+      let x = text-levels (codes "\n") (lines_before (codes "thead") [] (row_trees (codes "th") alignments header none)
       (body_trees alignments rows)) in
-      let w = text-levels (codes "\n") rest in omega (arith, cells, body, t, u, v, w)
-  block-levels i is_tight (html_block s) d rest e h = omega arith
+      let y = text-levels (codes "\n") rest in omega (arith, cells, body, t, u, x, y, r, a)
+  block-levels n i is_tight (html_block u) d o p w rest e h s low v r = r
 
-  blocks-levels : (in_item is_tight is_in_line : Bool) (bs : Blocks) (d : document.Blocks)
-      → document_blocks (seen_blocks bs) ≡ Some d → are_normal_blocks in_item d ≡ true
-      → levels (blocks_trees is_tight is_in_line bs) ≤ most (depth_among d)
-  blocks-levels i is_tight is_in_line no_blocks d e h = omega arith
-  blocks-levels i is_tight is_in_line (block b bs) d e h =
-      let k = two-some document.block (document_block (seen_block b)) (document_blocks (seen_blocks bs)) d e in
-      let p = and_parts (is_normal_block i k.0) (are_normal_blocks false k.1) (ap (are_normal_blocks i) k.4 ∙ h) in
-      let rest = blocks_trees is_tight (is_bare is_tight b) bs in
-      let l = block-levels i is_tight b k.0 rest k.2 p.0 in
-      let m = blocks-levels false is_tight (is_bare is_tight b) bs k.1 k.3 p.1 in
-      let same = ap depth_among k.4 in
-      let t = begun-levels is_in_line (is_bare is_tight b) (block_trees is_tight b rest) in
-      omega (arith, l, m, same, t)
+  -- what is open before blocks is no deeper than the document that they are of
+  blocks-levels : (n : ℕ) (i is_tight is_in_line : Bool) (bs : Blocks) (flat : document.Blocks) (o : Stack)
+      (d : document.Blocks) → document_blocks (seen_blocks bs) ≡ Some flat → are_flat_blocks i flat ≡ true
+      → nested (Some o) flat ≡ Some d → trees_depth d ≤ n → IsLow n (blocks_open is_tight is_in_line bs) o
+  blocks-levels n i is_tight is_in_line no_blocks flat o d e h g low =
+      let x = no-parts flat o d e g in
+      ((omega arith, tt), subst (Matches []) x refl, subst (StackIsLow n) x low)
+  blocks-levels n i is_tight is_in_line (block b bs) flat o d e h g low =
+      let k = parts b bs flat o d e g in
+      let q = and_parts (is_flat_block i k.first) (are_flat_blocks false k.rest)
+      (ap (are_flat_blocks i) k.are_both ∙ h) in
+      let bare = is_bare is_tight b in
+      let j = blocks-levels n false is_tight bare bs k.rest k.behind d k.is_rest q.1 k.goes_on low in
+      let t = blocks_open is_tight bare bs in
+      let tags = html-low n b k.first o k.behind t k.step j in
+      let open_ = with_html b t in
+      let ts = open_.first in
+      let width = length open_.behind in
+      let named = few-names (names_of open_.behind) o tags.1 in
+      let same = length-named open_.behind in
+      let around : width ≤ open_levels o = omega (arith, named, same) in
+      let own = block-levels n i is_tight b k.first o k.behind width ts k.is_first q.0 k.step j.2 around tags.0.0 in
+      let few = few-open n o tags.2 in
+      let line = begun-levels is_in_line bare (block_trees is_tight b ts) in
+      ((omega (arith, own, few, line, around), tags.0.1), tags.1, tags.2)
 
-  items-levels : (is_tight : Bool) (items : Items) (d : document.Items) → document_items (seen_items items) ≡ Some d
-      → are_normal_items d ≡ true → levels (items_trees is_tight items) ≤ suc (most (depth_of_items d))
-  items-levels is_tight no_items d e h = omega arith
-  items-levels is_tight (item bs rest) d e h =
-      let k = two-some document.item (document_blocks (seen_blocks bs)) (document_items (seen_items rest)) d e in
-      let p = and_parts (are_normal_blocks true k.0) (are_normal_items k.1) (ap are_normal_items k.4 ∙ h) in
-      let l = blocks-levels true is_tight true bs k.0 k.2 p.0 in
-      let m = items-levels is_tight rest k.1 k.3 p.1 in
-      let same = ap depth_of_items k.4 in
+  items-levels : (is_tight : Bool) (items : Items) (d e : document.Items)
+      → document_items (seen_items items) ≡ Some d
+      → are_flat_items d ≡ true → nested_items d ≡ Some e
+      → levels (items_trees is_tight items) ≤ suc (items_depth e + 24)
+  items-levels is_tight no_items d e h f g = omega arith
+  items-levels is_tight (item bs rest) d e h f g =
+      let k = two-some document.item (document_blocks (seen_blocks bs)) (document_items (seen_items rest)) d h in
+      let q = and_parts (are_flat_blocks true k.0) (are_flat_items k.1) (ap are_flat_items k.4 ∙ f) in
+      let m = two-some document.item (nested (Some (outside document.no_blocks)) k.0) (nested_items k.1) e
+      (ap nested_items k.4 ∙ g) in
+      let inner = blocks-levels (trees_depth m.0) true is_tight true bs k.0 (outside document.no_blocks) m.0 k.2 q.0
+      m.2 (omega arith) in
+      let l = inner.0.0 in
+      let j = items-levels is_tight rest k.1 m.1 k.3 q.1 m.3 in
+      let same = ap items_depth m.4 in
       let t = text-levels (codes "\n") (items_trees is_tight rest) in
-      omega (arith, l, m, same, t)
+      omega (arith, l, j, same, t)
 
--- 32 lists and quotes in each other, and a table of lines in them
-pub shallow : (bs : Blocks) (d : document.Blocks) → document_blocks (seen_blocks bs) ≡ Some d → IsNormal d
-    → levels (spelled_of bs) ≤ 1022
-shallow bs d e n =
-    let p = and_parts (are_normal_blocks false d) (nat_le (depth_among d) most_nested) n in
-    let l = blocks-levels false false false bs d e p.0 in
-    let few : depth_among d ≤ most_nested = grind (arith, nat_tests, p.1) in
-    omega (arith, l, few)
+-- as deep as the document, and leaves in it
+pub shallow : (bs : Blocks) (flat d : document.Blocks) → document_blocks (seen_blocks bs) ≡ Some flat
+    → IsFlat flat
+    → nested_document flat ≡ Some d → trees_depth d ≤ 998 → levels (spelled_of bs) ≤ 1022
+shallow bs flat d e h g low =
+    let i = blocks-levels 998 false false false bs flat (outside document.no_blocks) d e h g low in
+    let l = i.0.0 in omega (arith, l)

@@ -11,14 +11,19 @@ use Rattle.std.proofs.lemmas.List.{append_assoc, append-nil}
 use Rattle.htmd_lexical.specs.AttributePairs.{AttributePair}
 use Rattle.htmd_values.specs.Serialisation.{is_void, end_tag}
 use Rattle.htmd_document.specs.Tags.{escaped_value}
-use Rattle.htmd_document.specs.Formats.{Format, Emphasis, Strong, Deleted, Superscript, Subscript, Inserted, Underlined}
+use Rattle.htmd_document.specs.Formats.{Format, Emphasis, Strong, Deleted, Superscript, Subscript, Inserted}
+use Rattle.htmd_document.specs.Formats.{Underlined}
 use Rattle.htmd_document.specs.Formats.{Marked, Small, Keyboard, Abbreviation}
-use Rattle.htmd_commonmark_reading.specs.Rendering.{escaped_byte, escaped, escaped_address, attribute, title_attribute}
+use Rattle.htmd_commonmark_reading.specs.Rendering.{escaped_byte, escaped, escaped_address, attribute}
+use Rattle.htmd_commonmark_reading.specs.Rendering.{title_attribute}
 use Rattle.htmd_commonmark_reading.specs.Rendering.{code_html, formatted_html, link_html, image_html, box_html}
-use Rattle.htmd_law_rendering.specs.RenderedTrees.{text_before, line_end, encoded_address, pairs_of_title, format_name}
+use Rattle.htmd_law_rendering.specs.RenderedTrees.{text_before, line_end, encoded_address, pairs_of_title}
+use Rattle.htmd_law_rendering.specs.RenderedTrees.{format_name}
 use Rattle.htmd_law_rendering.specs.RenderedTrees.{pairs_of_format, pairs_of_link, pairs_of_image, pairs_of_box}
-use Rattle.htmd_law_rendering.specs.RenderedTrees.{lines_before, heading_name}
-use Rattle.htmd_law_rendering.specs.SpelledTrees.{TagForm, spaced, short, SpelledForest, none, more, text, element, attribute_in, tag}
+use Rattle.htmd_law_rendering.specs.RenderedTrees.{lines_before, heading_name, sectioned}
+use Rattle.htmd_law_rendering.specs.SpelledTrees.{TagForm, spaced, short, SpelledForest, none, more, text, element}
+use Rattle.htmd_law_rendering.specs.SpelledTrees.{lone, section}
+use Rattle.htmd_law_rendering.specs.SpelledTrees.{attribute_in, tag}
 use Rattle.htmd_law_rendering.specs.SpelledTrees.{spelled, all_spelled}
 use Rattle.htmd_law_rendering.proofs.ByteLemmas.{escaped-encoded, decimal-digits, no-digit}
 
@@ -32,6 +37,19 @@ text-spelled (b ∷ s) (more (text u) ts) =
     ap (λ x. x ++ all_spelled ts) (flat_map-append escaped_byte (b ∷ s) u)
     ∙ append_assoc (escaped (b ∷ s)) (escaped u) (all_spelled ts)
 text-spelled (b ∷ s) (more (element k n attributes ks) ts) = refl
+text-spelled (b ∷ s) (more (lone n attributes u) ts) = refl
+text-spelled (b ∷ s) (more (section rows) ts) = refl
+
+-- a section has no tags
+pub sectioned-spelled : (ts rest : SpelledForest)
+    → all_spelled (sectioned ts rest) ≡ all_spelled ts ++ all_spelled rest
+sectioned-spelled none rest = refl
+sectioned-spelled (more (text s) ts) rest =
+    ap (λ x. escaped s ++ x) (sectioned-spelled ts rest)
+    ∙ sym (append_assoc (escaped s) (all_spelled ts) (all_spelled rest))
+sectioned-spelled (more (element k n attributes ks) ts) rest = refl
+sectioned-spelled (more (lone n attributes s) ts) rest = refl
+sectioned-spelled (more (section rows) ts) rest = refl
 
 pub text-alone : (s : List ℕ) → all_spelled (text_before s none) ≡ escaped s
 text-alone s = text-spelled s none ∙ append-nil (escaped s)

@@ -1,11 +1,12 @@
 -- The blocks of what is read stand where the strict grammar allows them, and so their HTML is read.
-use Rattle.std.proofs.Common.{◌≡◌, ℕ, Bool, true, false, ◌&&◌, List, [], ◌∷◌, drop, refl}
+use Rattle.std.proofs.Common.{◌≡◌, ℕ, Bool, true, false, ◌&&◌, List, [], ◌∷◌, ◌++◌, drop, refl}
 use Rattle.std.proofs.Common.{sym, subst, codes, arith, Option, Some, None}
-use Rattle.std.specs.Prelude.{◌==◌, nat_le}
+use Rattle.std.specs.Prelude.{⊤, ◌==◌, nat_le}
 use Rattle.std.proofs.lemmas.Bool.{and_parts}
 use Rattle.htmd_lexical.proofs.Cases.{test}
 use Rattle.htmd_lexical.specs.AttributePairs.{AttributePair}
 use Rattle.htmd_lexical.specs.CharacterClasses.{lacks}
+use Rattle.htmd_document.specs.FlatDocuments.{lines_of}
 use Rattle.htmd_document.specs.declared.document.Alignment.{Alignment}
 use Rattle.htmd_values.specs.Serialisation.{is_void}
 use Rattle.htmd_grammar.specs.Grammar.{reads}
@@ -21,24 +22,33 @@ use Rattle.htmd_commonmark_reading.specs.Rendering.{first_alignment, is_bare, ht
 use Rattle.htmd_law_rendering.specs.RenderedTrees.{element_before, line_end, inlines_trees, pairs_of_alignment}
 use Rattle.htmd_law_rendering.specs.RenderedTrees.{cells_trees, lines_before, row_trees, rows_trees, body_trees}
 use Rattle.htmd_law_rendering.specs.RenderedTrees.{table_trees, heading_name, pairs_of_language, code_trees}
-use Rattle.htmd_law_rendering.specs.RenderedTrees.{code_block_tree, list_name, pairs_of_start, begun_line, block_trees}
-use Rattle.htmd_law_rendering.specs.RenderedTrees.{blocks_trees, items_trees, spelled_of, trees_of}
+use Rattle.htmd_law_rendering.specs.RenderedTrees.{code_block_tree, list_name, pairs_of_start, begun_line}
+use Rattle.htmd_law_rendering.specs.RenderedTrees.{block_trees}
+use Rattle.htmd_law_rendering.specs.RenderedTrees.{blocks_trees, items_trees, spelled_of, trees_of, Open, with_html}
+use Rattle.htmd_law_rendering.specs.RenderedTrees.{blocks_open}
 use Rattle.htmd_law_rendering.specs.SpelledTrees.{SpelledForest, none, all_spelled}
 use Rattle.htmd_law_rendering.specs.PlainReadings.{are_paired, cells_are_paired, rows_are_paired, block_is_paired}
-use Rattle.htmd_law_rendering.specs.PlainReadings.{blocks_are_paired, items_are_paired, are_strict, cells_are_strict}
-use Rattle.htmd_law_rendering.specs.PlainReadings.{rows_are_strict, block_is_strict, blocks_are_strict}
+use Rattle.htmd_law_rendering.specs.PlainReadings.{names_with_html, blocks_unopened, each_is_paired}
+use Rattle.htmd_law_rendering.specs.PlainReadings.{blocks_are_paired}
+use Rattle.htmd_law_rendering.specs.PlainReadings.{items_are_paired, are_strict, cells_are_strict}
+use Rattle.htmd_law_rendering.specs.PlainReadings.{rows_are_strict, block_is_strict, blocks_are_strict, takes_blocks}
+use Rattle.htmd_law_rendering.specs.PlainReadings.{below_open, lines_are_strict, stands_right}
 use Rattle.htmd_law_rendering.specs.PlainReadings.{items_are_strict, IsPlain}
 use Rattle.htmd_law_rendering.specs.RenderingLaws.{RenderedIsRead}
-use Rattle.htmd_law_rendering.proofs.RenderedLemmas.{rendered}
+use Rattle.htmd_law_rendering.proofs.RawLemmas.{names_of}
+use Rattle.htmd_law_rendering.proofs.RenderedLemmas.{rendered, pairs-end}
+use Rattle.htmd_law_rendering.proofs.FlowLemmas.{lines-fit as tags-fit}
+use Rattle.htmd_law_rendering.proofs.FlowLemmas.{AreFlow, Around, around-of, around-all, takes-from, IsFit}
 use Rattle.htmd_law_rendering.proofs.TagLemmas.{IsTreeName}
 use Rattle.htmd_law_rendering.proofs.FittingLemmas.{FitPairs, Fits, trees-read}
-use Rattle.htmd_law_rendering.proofs.PlaceLemmas.{TakesInlines, TakesBlocks, HasNoLink, takes, not-alone, holds_inlines}
+use Rattle.htmd_law_rendering.proofs.PlaceLemmas.{TakesInlines, TakesBlocks, HasNoLink, takes, not-alone}
+use Rattle.htmd_law_rendering.proofs.PlaceLemmas.{holds_inlines}
 use Rattle.htmd_law_rendering.proofs.PlaceLemmas.{by_level, code-allowed, p-allowed, pre-allowed, hr-allowed}
 use Rattle.htmd_law_rendering.proofs.PlaceLemmas.{blockquote-allowed, table-allowed, list-allowed, heading-allowed}
 use Rattle.htmd_law_rendering.proofs.PlaceLemmas.{li-allowed, thead-allowed, tbody-allowed, head_row-allowed}
 use Rattle.htmd_law_rendering.proofs.PlaceLemmas.{body_row-allowed, th-allowed, td-allowed, quote-takes, li-takes}
 use Rattle.htmd_law_rendering.proofs.StrictLemmas.{alignment-pairs, text-fits, line-fits, inline-text, inlines-fit}
-use Rattle.htmd_law_rendering.proofs.StrictLemmas.{alone-fit}
+use Rattle.htmd_law_rendering.proofs.StrictLemmas.{closed-fits, alone-fit}
 
 module _ (z : Bool) where
   -- an element that ends a line
@@ -222,70 +232,157 @@ module _ (z : Bool) where
   list-not-alone None = not-alone z (codes "ul") refl
   list-not-alone (Some n) = not-alone z (codes "ol") refl
 
-  begun-fits : (l bare : Bool) (ts : SpelledForest) (c : Context) → TakesBlocks z c → Fits z c ts
+  begun-fits : (l bare : Bool) (ts : SpelledForest) (c : Context) → Around z c → Fits z c ts
       → Fits z c (begun_line l bare ts)
-  begun-fits true true ts c b f = f
-  begun-fits true false ts c b f = line-fits z ts c (b.takes_inlines).not_alone f
-  begun-fits false true ts c b f = f
-  begun-fits false false ts c b f = f
+  begun-fits true true ts c a f = f
+  begun-fits true false ts c a f = line-fits z ts c a.not_alone f
+  begun-fits false true ts c a f = f
+  begun-fits false false ts c a f = f
+
+  -- a block that is no HTML block
+  abbrev own_is_strict : Context → Option (List (List ℕ)) → Block → Bool
+  own_is_strict c ns (html_block s) = true
+  own_is_strict c ns b = takes_blocks (below_open c ns) && block_is_strict c ns b
+
+  html-fit : (b : Block) (o : Open) (left : Option (List (List ℕ))) (ns : List (List ℕ)) (c : Context)
+      → names_with_html b left ≡ Some ns → (stands_right c left b && block_is_strict c left b) ≡ true
+      → TakesBlocks z c → ((ms : List (List ℕ)) → left ≡ Some ms → IsFit z c o ms)
+      → (own_is_strict c (Some ns) b ≡ true) × IsFit z c (with_html b o) ns
+  html-fit (paragraph xs) o left ns c u s b i =
+      (subst (λ k. own_is_strict c k (paragraph xs) ≡ true) u s, i ns u)
+  html-fit (heading level xs) o left ns c u s b i =
+      (subst (λ k. own_is_strict c k (heading level xs) ≡ true) u s, i ns u)
+  html-fit (code_block language t) o left ns c u s b i =
+      (subst (λ k. own_is_strict c k (code_block language t) ≡ true) u s, i ns u)
+  html-fit (quote bs) o left ns c u s b i = (subst (λ k. own_is_strict c k (quote bs) ≡ true) u s, i ns u)
+  html-fit thematic_break o left ns c u s b i = (subst (λ k. own_is_strict c k thematic_break ≡ true) u s, i ns u)
+  html-fit (list start is_tight items) o left ns c u s b i =
+      (subst (λ k. own_is_strict c k (list start is_tight items) ≡ true) u s, i ns u)
+  html-fit (table alignments header rs) o left ns c u s b i =
+      (subst (λ k. own_is_strict c k (table alignments header rs) ≡ true) u s, i ns u)
+  html-fit (html_block t) o left ns c u s b i =
+      (refl, tags-fit z (lines_of t) o left ns c u (and_parts true (lines_are_strict c (lines_of t) left) s).1 b i)
+
+  -- where a block that is no HTML block stands
+  abbrev IsOwn : Block → Type 0 → Type 0
+  IsOwn (html_block s) A = ⊤
+  IsOwn b A = A
+
+  from-own : (b : Block) (c : Context) (ns : List (List ℕ))
+      → (takes_blocks (ns ++ c) && block_is_strict c (Some ns) b) ≡ true → Around z (ns ++ c)
+      → TakesBlocks z (ns ++ c) × (block_is_strict c (Some ns) b ≡ true)
+  from-own b c ns s a =
+      let p = and_parts (takes_blocks (ns ++ c)) (block_is_strict c (Some ns) b) s in
+      (takes-from z (ns ++ c) a p.0, p.1)
+
+  own-takes : (b : Block) (c : Context) (ns : List (List ℕ)) → own_is_strict c (Some ns) b ≡ true
+      → Around z (ns ++ c) → IsOwn b (TakesBlocks z (ns ++ c) × (block_is_strict c (Some ns) b ≡ true))
+  own-takes (paragraph xs) c ns s a = from-own (paragraph xs) c ns s a
+  own-takes (heading level xs) c ns s a = from-own (heading level xs) c ns s a
+  own-takes (code_block language t) c ns s a = from-own (code_block language t) c ns s a
+  own-takes (quote bs) c ns s a = from-own (quote bs) c ns s a
+  own-takes thematic_break c ns s a = from-own thematic_break c ns s a
+  own-takes (list start is_tight items) c ns s a = from-own (list start is_tight items) c ns s a
+  own-takes (table alignments header rs) c ns s a = from-own (table alignments header rs) c ns s a
+  own-takes (html_block t) c ns s a = tt
 
   mutual
     unfolding is_void
 
-    block-fits : (tight : Bool) (b : Block) (rest : SpelledForest) (c : Context) → block_is_paired b ≡ true
-        → block_is_strict b ≡ true → TakesBlocks z c → Fits z c rest → Fits z c (block_trees tight b rest)
-    block-fits true (paragraph xs) rest c h s b f = inlines-fit z xs c rest h s b.takes_inlines b.no_link f
-    block-fits false (paragraph xs) rest c h s b f =
-        element-fits (codes "p") [] (inlines_trees xs none) rest c (p-allowed z c b) refl (refl, refl) (tt, refl) refl
+    -- below the elements that lines have opened
+    block-fits : (tight : Bool) (b : Block) (rest : SpelledForest) (c : Context) (ns : List (List ℕ))
+        → block_is_paired b ≡ true → IsOwn b (TakesBlocks z (ns ++ c) × (block_is_strict c (Some ns) b ≡ true))
+        → Fits z (ns ++ c) rest → Fits z (ns ++ c) (block_trees tight b rest)
+    block-fits true (paragraph xs) rest c ns h k f =
+        let b = k.0 in
+        let s = k.1 in
+        inlines-fit z xs (ns ++ c) rest h s b.takes_inlines b.no_link f
+    block-fits false (paragraph xs) rest c ns h k f =
+        let b = k.0 in
+        let s = k.1 in
+        let d = ns ++ c in
+        element-fits (codes "p") [] (inlines_trees xs none) rest d (p-allowed z d b) refl (refl, refl) (tt, refl) refl
         (b.takes_inlines).not_alone
-        (alone-fit z xs (codes "p" ∷ c) h s (takes z (codes "p") c refl) b.no_link) f
-    block-fits tight (heading level xs) rest c h s b f =
+        (alone-fit z xs (codes "p" ∷ d) h s (takes z (codes "p") d refl) b.no_link) f
+    block-fits tight (heading level xs) rest c ns h k f =
+        let b = k.0 in
+        let s = k.1 in
         let p = and_parts (nat_le 1 level && nat_le level 6) (are_strict false xs) s in
         let q = and_parts (nat_le 1 level) (nat_le level 6) p.0 in
-        heading-fits level xs rest c h q.0 q.1 p.1 b f
-    block-fits tight (code_block language s) rest c h e b f = code_block-fits language s rest c b f
-    block-fits tight (quote bs) rest c h s b f =
-        lines-fit (codes "blockquote") [] (blocks_trees false false bs) rest c (blockquote-allowed z c b) refl
+        heading-fits level xs rest (ns ++ c) h q.0 q.1 p.1 b f
+    block-fits tight (code_block language u) rest c ns h k f = code_block-fits language u rest (ns ++ c) k.0 f
+    block-fits tight (quote bs) rest c ns h k f =
+        let b = k.0 in
+        let s = k.1 in
+        let d = ns ++ c in
+        let p = pairs-end bs h in
+        let i = open-fits false false bs (codes "blockquote" ∷ d) [] p.0 p.1 s (quote-takes z d b) in
+        lines-fit (codes "blockquote") [] (blocks_trees false false bs) rest d (blockquote-allowed z d b) refl
         (refl, refl) (tt, refl) refl (not-alone z (codes "blockquote") refl) (b.takes_inlines).not_alone
-        (blocks-fit false false bs (codes "blockquote" ∷ c) h s (quote-takes z c b)) f
-    block-fits tight thematic_break rest c h s b f = (
-      (hr-allowed z c b, (refl, refl), (tt, refl), refl),
-      tt,
-      line-fits z rest c (b.takes_inlines).not_alone f,
-    )
-    block-fits tight (list start is_tight items) rest c h s b f =
+        (closed-fits z (blocks_open false false bs) (codes "blockquote" ∷ d) i.named i.fits) f
+    block-fits tight thematic_break rest c ns h k f =
+        let b = k.0 in
+        let s = k.1 in (
+          (hr-allowed z (ns ++ c) b, (refl, refl), (tt, refl), refl),
+          tt,
+          line-fits z rest (ns ++ c) (b.takes_inlines).not_alone f,
+        )
+    block-fits tight (list start is_tight items) rest c ns h k f =
+        let b = k.0 in
+        let s = k.1 in
+        let d = ns ++ c in
         let content = items_trees is_tight items in
-        lines-fit (list_name start) (pairs_of_start start) content rest c (list-allowed z c b start)
+        lines-fit (list_name start) (pairs_of_start start) content rest d (list-allowed z d b start)
         (list-not-void start) (list-named start) (start-pairs start)
         (list-whole start (all_spelled (line_end content))) (list-not-alone start) (b.takes_inlines).not_alone
-        (items-fit is_tight start items c h s b) f
-    block-fits tight (table alignments header rs) rest c h s b f =
+        (items-fit is_tight start items d h s b) f
+    block-fits tight (table alignments header rs) rest c ns h k f =
+        let b = k.0 in
+        let s = k.1 in
         let p = and_parts (cells_are_paired header) (rows_are_paired rs) h in
         let q = and_parts (cells_are_strict header) (rows_are_strict rs) s in
-        table-fits alignments header rs rest c p.0 p.1 q.0 q.1 b f
-    block-fits tight (html_block s) rest c h e b f = absurd (cc)
+        table-fits alignments header rs rest (ns ++ c) p.0 p.1 q.0 q.1 b f
+    block-fits tight (html_block s) rest c ns h k f = f
 
-    blocks-fit : (tight l : Bool) (bs : Blocks) (c : Context) → blocks_are_paired bs ≡ true
-        → blocks_are_strict bs ≡ true → TakesBlocks z c → Fits z c (blocks_trees tight l bs)
-    blocks-fit tight l no_blocks c h s b = tt
-    blocks-fit tight l (block x bs) c h s b =
-        let p = and_parts (block_is_paired x) (blocks_are_paired bs) h in
-        let q = and_parts (block_is_strict x) (blocks_are_strict bs) s in
-        let behind = blocks_trees tight (is_bare tight x) bs in
-        begun-fits l (is_bare tight x) (block_trees tight x behind) c b
-        (block-fits tight x behind c p.0 q.0 b (blocks-fit tight (is_bare tight x) bs c p.1 q.1 b))
+    open-fits : (tight l : Bool) (bs : Blocks) (c : Context) (ns : List (List ℕ)) → blocks_unopened bs ≡ Some ns
+        → each_is_paired bs ≡ true → blocks_are_strict c bs ≡ true → TakesBlocks z c
+        → IsFit z c (blocks_open tight l bs) ns
+    open-fits tight l no_blocks c ns u h s b =
+        let x : [] ≡ ns = cc in
+        record { fits = (tt, tt); named = x; flow = subst AreFlow x tt; ends = tt }
+    open-fits tight l (block x bs) c ns u h s b =
+        let p = and_parts (block_is_paired x) (each_is_paired bs) h in
+        let left = blocks_unopened bs in
+        let q = and_parts (stands_right c left x && block_is_strict c left x) (blocks_are_strict c bs) s in
+        let bare = is_bare tight x in
+        let i = html-fit x (blocks_open tight bare bs) left ns c u q.0 b
+        (λ ms f. open-fits tight bare bs c ms f p.1 q.1 b) in
+        let o = with_html x (blocks_open tight bare bs) in
+        let here = names_of o.behind ++ c in
+        let around = around-all z (names_of o.behind) c (subst AreFlow (sym i.1.named) i.1.flow) (around-of z c b) in
+        let strict = subst (λ ks. own_is_strict c (Some ks) x ≡ true) (sym i.1.named) i.0 in
+        let own = block-fits tight x o.first c (names_of o.behind) p.0 (own-takes x c (names_of o.behind) strict around)
+        i.1.fits.0 in
+        record {
+          fits = (begun-fits l bare (block_trees tight x o.first) here around own, i.1.fits.1);
+          named = i.1.named;
+          flow = i.1.flow;
+          ends = i.1.ends;
+        }
 
     items-fit : (tight : Bool) (start : Option ℕ) (items : Items) (c : Context) → items_are_paired items ≡ true
-        → items_are_strict items ≡ true → TakesBlocks z c
+        → items_are_strict (codes "li" ∷ list_name start ∷ c) items ≡ true → TakesBlocks z c
         → Fits z (list_name start ∷ c) (items_trees tight items)
     items-fit tight start no_items c h s b = tt
     items-fit tight start (item bs rest) c h s b =
         let p = and_parts (blocks_are_paired bs) (items_are_paired rest) h in
-        let q = and_parts (blocks_are_strict bs) (items_are_strict rest) s in
+        let r = pairs-end bs p.0 in
+        let within = codes "li" ∷ list_name start ∷ c in
+        let q = and_parts (blocks_are_strict within bs) (items_are_strict within rest) s in
+        let i = open-fits tight true bs within [] r.0 r.1 q.0 (li-takes z c b start) in
         element-fits (codes "li") [] (blocks_trees tight true bs) (items_trees tight rest) (list_name start ∷ c)
         (li-allowed z c b start) refl (refl, refl) (tt, refl) refl (list-not-alone start)
-        (blocks-fit tight true bs (codes "li" ∷ list_name start ∷ c) p.0 q.0 (li-takes z c b start))
-        (items-fit tight start rest c p.1 q.1 b)
+        (closed-fits z (blocks_open tight true bs) within i.named i.fits) (items-fit tight start rest c p.1 q.1 b)
 
   body-takes : TakesBlocks z below_body
   body-takes = record {
@@ -296,14 +393,17 @@ module _ (z : Bool) where
   }
 
   pub plain-fits : (bs : Blocks) → IsPlain bs → Fits z below_body (spelled_of bs)
-  plain-fits bs p = blocks-fit false false bs below_body p.paired p.strict body-takes
+  plain-fits bs p =
+      let q = pairs-end bs p.paired in
+      let i = open-fits false false bs below_body [] q.0 q.1 p.strict body-takes in
+      closed-fits z (blocks_open false false bs) below_body i.named i.fits
 
   pub rendered-reads : (bs : Blocks) → IsPlain bs → reads (project z) below_body (html_of bs) (trees_of bs)
   rendered-reads bs p =
       let e = rendered bs p.paired in
       let l = p.shallow in
       subst (λ s. reads (project z) below_body s (trees_of bs)) (sym e)
-      (trees-read z (spelled_of bs) below_body true (plain-fits bs p)
+      (trees-read z (spelled_of bs) below_body (plain-fits bs p)
       (subst (λ s. lacks 13 s ≡ true) e p.no_returns) (omega arith))
 
 pub read : RenderedIsRead

@@ -12,7 +12,8 @@ use Rattle.htmd_lexical.proofs.Cases.{test}
 use Rattle.htmd_lexical.specs.AttributePairs.{AttributePair}
 use Rattle.htmd_lexical.specs.CharacterClasses.{is_among, is_tag_name}
 use Rattle.htmd_lexical.specs.WhiteSpace.{is_ascii_white_space}
-use Rattle.htmd_document.specs.Formats.{Format, Emphasis, Strong, Deleted, Superscript, Subscript, Inserted, Underlined}
+use Rattle.htmd_document.specs.Formats.{Format, Emphasis, Strong, Deleted, Superscript, Subscript, Inserted}
+use Rattle.htmd_document.specs.Formats.{Underlined}
 use Rattle.htmd_document.specs.Formats.{Marked, Small, Keyboard, Abbreviation}
 use Rattle.htmd_document.specs.declared.document.Alignment.{Alignment}
 use Rattle.htmd_document.specs.declared.document.Alignment.TheVariants as aligned
@@ -20,13 +21,15 @@ use Rattle.htmd_values.specs.Serialisation.{is_void}
 use Rattle.htmd_grammar.specs.Nesting.{Context, parent_name, is_allowed, is_open}
 use Rattle.htmd_grammar.specs.RawContent.{content_of, drops_line_feed, holds_text_alone}
 use Rattle.htmd_grammar.proofs.NestingLemmas.{among_passes}
-use Rattle.htmd_commonmark_reading.specs.Markup.{Inlines, no_inlines, letter, code, formatted, link, image, line_break}
+use Rattle.htmd_commonmark_reading.specs.Markup.{Inlines, no_inlines, letter, code, formatted, link, image}
+use Rattle.htmd_commonmark_reading.specs.Markup.{line_break}
 use Rattle.htmd_commonmark_reading.specs.Markup.{task, raw, plain_text}
 use Rattle.htmd_law_rendering.specs.RawTags.{RawTag, opening, closing, breaking, unknown, raw_tag}
 use Rattle.htmd_law_rendering.specs.RenderedTrees.{text_before, line_end, format_name, pairs_of_format, pairs_of_link}
 use Rattle.htmd_law_rendering.specs.RenderedTrees.{pairs_of_image, pairs_of_box, pairs_of_alignment, Behind, Open}
 use Rattle.htmd_law_rendering.specs.RenderedTrees.{opened, with_raw, inlines_open, inlines_trees}
-use Rattle.htmd_law_rendering.specs.SpelledTrees.{SpelledForest, text, element, none, more, all_spelled}
+use Rattle.htmd_law_rendering.specs.SpelledTrees.{SpelledForest, text, element, lone, section, none, more}
+use Rattle.htmd_law_rendering.specs.SpelledTrees.{all_spelled}
 use Rattle.htmd_law_rendering.specs.PlainReadings.{opened_names, names_with, unopened, are_paired, in_anchor}
 use Rattle.htmd_law_rendering.specs.PlainReadings.{raw_is_strict, are_strict}
 use Rattle.htmd_law_rendering.proofs.TagLemmas.{IsTreeName}
@@ -35,7 +38,8 @@ use Rattle.htmd_law_rendering.proofs.RawNames.{raw_names}
 use Rattle.htmd_law_rendering.proofs.RawLemmas.{IsRaw, raw-is, names_of}
 use Rattle.htmd_law_rendering.proofs.RenderedLemmas.{nothing-left, all-opened, inlines-open}
 use Rattle.htmd_law_rendering.proofs.PlaceLemmas.{TakesInlines, HasNoLink, takes, holds_inlines, format-holds}
-use Rattle.htmd_law_rendering.proofs.PlaceLemmas.{format-no_link, format-allowed, code-allowed, img-allowed, br-allowed}
+use Rattle.htmd_law_rendering.proofs.PlaceLemmas.{format-no_link, format-allowed, code-allowed, img-allowed}
+use Rattle.htmd_law_rendering.proofs.PlaceLemmas.{br-allowed}
 use Rattle.htmd_law_rendering.proofs.PlaceLemmas.{input-allowed, a-allowed, raw-places}
 
 -- ---- attributes
@@ -159,6 +163,8 @@ module _ (z : Bool) where
     h.2,
   )
   text-fits (b ∷ s) (more (element k n attributes ks) ts) c f h = (((λ e. let w = e in cc), f), tt, h)
+  text-fits (b ∷ s) (more (lone n attributes u) ts) c f h = (((λ e. let w = e in cc), f), tt, h)
+  text-fits (b ∷ s) (more (section rows) ts) c f h = (((λ e. let w = e in cc), f), tt, h)
 
   -- a line's end may stand wherever texts may
   pub line-fits : (ts : SpelledForest) (c : Context) → holds_text_alone z (parent_name c) ≡ false → Fits z c ts
@@ -239,15 +245,15 @@ module _ (z : Bool) where
   format-content Keyboard s = refl
   format-content (Abbreviation title) s = refl
 
-  abbrev FitsBehind : Context → List Behind → Type 0
+  abbrev pub FitsBehind : Context → List Behind → Type 0
   FitsBehind c [] = ⊤
   FitsBehind c (b ∷ bs) = Fits z (names_of bs ++ c) b.trees × FitsBehind c bs
 
   -- each part fits below the elements that are still to be opened
-  abbrev FitsOpen : Context → Open → Type 0
+  abbrev pub FitsOpen : Context → Open → Type 0
   FitsOpen c o = Fits z (names_of o.behind ++ c) o.first × FitsBehind c o.behind
 
-  closed-fits : (o : Open) (c : Context) → names_of o.behind ≡ [] → FitsOpen c o → Fits z c o.first
+  pub closed-fits : (o : Open) (c : Context) → names_of o.behind ≡ [] → FitsOpen c o → Fits z c o.first
   closed-fits o c e f = subst (λ ns. Fits z (ns ++ c) o.first) e f.0
 
   opened-fits : (k : Bool) (n : List ℕ) (attributes : List AttributePair) (first : SpelledForest)

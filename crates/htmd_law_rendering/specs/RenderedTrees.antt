@@ -1,6 +1,6 @@
 -- The trees that what is read of Markdown stands for: each block and inline as the element that its HTML has for it.
 -- Each definition gives trees before others, so that a text and one that follows it are one text. Raw tags in lines
--- are paired from the right.
+-- are paired from the right, and so are the lines of tags in HTML blocks.
 use Rattle.std.specs.Prelude.{ℕ, Bool, true, false, ◌/◌, ◌%◌, if◌then◌else◌, ◌==◌, List, [], ◌∷◌, ◌++◌, drop, codes}
 use Rattle.std.specs.Prelude.{Option, Some, None}
 use Rattle.std.specs.Fmt.{decimal}
@@ -10,17 +10,26 @@ use Rattle.htmd_lexical.specs.AttributePairs.{AttributePair}
 use Rattle.htmd_values.specs.ValueTrees.{ValueForest}
 use Rattle.htmd_document.specs.declared.document.Alignment.{Alignment}
 use Rattle.htmd_document.specs.declared.document.Alignment.TheVariants as aligned
-use Rattle.htmd_document.specs.Formats.{Format, Emphasis, Strong, Deleted, Superscript, Subscript, Inserted, Underlined}
+use Rattle.htmd_document.specs.Formats.{Format, Emphasis, Strong, Deleted, Superscript, Subscript, Inserted}
+use Rattle.htmd_document.specs.Formats.{Underlined}
 use Rattle.htmd_document.specs.Formats.{Marked, Small, Keyboard, Abbreviation}
-use Rattle.htmd_commonmark_reading.specs.Markup.{Inlines, no_inlines, letter, code, formatted, link, image, line_break}
+use Rattle.htmd_document.specs.Documents.{BlockAttribute}
+use Rattle.htmd_document.specs.FlatDocuments.{lines_of}
+use Rattle.htmd_document.specs.Tags.{element_name, attribute_name}
+use Rattle.htmd_commonmark_reading.specs.Elements as lines
+use Rattle.htmd_commonmark_reading.specs.Elements.{Line, line_of}
+use Rattle.htmd_commonmark_reading.specs.Markup.{Inlines, no_inlines, letter, code, formatted, link, image}
+use Rattle.htmd_commonmark_reading.specs.Markup.{line_break}
 use Rattle.htmd_commonmark_reading.specs.Markup.{task, raw, Block, paragraph, heading, code_block, quote}
 use Rattle.htmd_commonmark_reading.specs.Markup.{thematic_break, list, table, html_block, Blocks, no_blocks, block}
 use Rattle.htmd_commonmark_reading.specs.Markup.{Items, no_items, item, plain_text}
 use Rattle.htmd_commonmark_reading.specs.Rendering.{stays_in_address, hexadecimal_digit, first_alignment, is_bare}
 use Rattle.htmd_law_rendering.specs.RawTags.{RawTag, opening, closing, breaking, unknown, raw_tag}
 pub use Rattle.htmd_law_rendering.specs.RawTags.{pair, pairs_of_format}
-use Rattle.htmd_law_rendering.specs.SpelledTrees.{SpelledForest, none, more, text, element, spaced, short}
-use Rattle.htmd_law_rendering.specs.SpelledTrees.{value_forest}
+use Rattle.htmd_law_rendering.specs.SpelledTrees.{SpelledForest, none, more, text, element, lone, section, spaced}
+use Rattle.htmd_law_rendering.specs.SpelledTrees.{short, value_forest}
+use Rattle.htmd_grammar.specs.Nesting.{is_table, is_tbody}
+use Rattle.htmd_lexical.specs.CharacterClasses.{is_among}
 
 -- ---- texts, elements and attributes
 
@@ -160,6 +169,62 @@ table_trees alignments header rows rest =
     (lines_before (codes "thead") [] (row_trees (codes "th") alignments header none) (body_trees alignments rows))
     rest
 
+-- ---- the lines of HTML blocks (4.6)
+
+abbrev pub pairs_of_element : List BlockAttribute → List AttributePair
+pairs_of_element [] = []
+pairs_of_element (a ∷ rest) = pair (attribute_name a.name) a.value ∷ pairs_of_element rest
+
+-- Rows up to the end of a table are in a section, whose tags HTML implies; a text before the first row isn't.
+abbrev pub sectioned : SpelledForest → SpelledForest → SpelledForest
+sectioned none rest = rest
+sectioned (more (text s) ts) rest = more (text s) (sectioned ts rest)
+sectioned ts rest = more (section ts) rest
+
+abbrev pub section_name : List ℕ
+section_name = codes "tbody"
+
+-- left of the section, if it is the innermost element
+abbrev pub left_of_section : SpelledForest → List Behind → Open
+left_of_section first [] = record { first = first; behind = [] }
+left_of_section first (b ∷ behind) =
+    if is_tbody b.name
+    then record { first = sectioned first b.trees; behind = behind }
+    else record { first = first; behind = b ∷ behind }
+
+-- a table and its captions begin left of the section
+abbrev pub bounds_section : List ℕ → Bool
+bounds_section n = is_among (codes "table" ∷ codes "caption" ∷ []) n
+
+abbrev pub outside_section : List ℕ → Open → Open
+outside_section n o = if bounds_section n then left_of_section o.first o.behind else o
+
+-- the end of a table ends a section too
+abbrev pub ends_of : List ℕ → Open → Open
+ends_of n o =
+    if is_table n then with_raw (closing section_name) (with_raw (closing n) o) else with_raw (closing n) o
+
+-- a line before trees: tags stand for elements as those in lines of text do
+abbrev pub with_line : Line → Open → Open
+with_line (lines.opening name attributes) o =
+    with_raw (opening (element_name name) (pairs_of_element attributes))
+    (onto line_end (outside_section (element_name name) o))
+with_line (lines.closing name) o =
+    ends_of (element_name name) (onto line_end (outside_section (element_name name) o))
+with_line (lines.whole name attributes s) o =
+    onto (λ ts. more (lone (element_name name) (pairs_of_element attributes) s) (line_end ts))
+    (outside_section (element_name name) o)
+with_line lines.unknown o = o
+
+abbrev pub with_lines : List (List ℕ) → Open → Open
+with_lines [] o = o
+with_lines (s ∷ rest) o = with_line (line_of s) (with_lines rest o)
+
+-- the lines of a block, if it is an HTML block
+abbrev pub with_html : Block → Open → Open
+with_html (html_block s) o = with_lines (lines_of s) o
+with_html b o = o
+
 -- ---- blocks (4 and 5)
 
 abbrev pub heading_name : ℕ → List ℕ
@@ -202,7 +267,7 @@ abbrev mutual
       element_before (heading_name level) [] (inlines_trees xs none) (line_end rest)
   block_trees is_tight (code_block language s) rest =
       element_before (codes "pre") [] (code_block_tree language s) (line_end rest)
-  block_trees is_tight (quote bs) rest = lines_before (codes "blockquote") [] (blocks_trees false false bs) rest
+  block_trees is_tight (quote bs) rest = lines_before (codes "blockquote") [] (blocks_open false false bs).first rest
   block_trees is_tight thematic_break rest = element_before (codes "hr") [] none (line_end rest)
   block_trees is_tight (list start tight items) rest =
       lines_before (list_name start) (pairs_of_start start) (items_trees tight items) rest
@@ -210,16 +275,19 @@ abbrev mutual
   block_trees is_tight (html_block s) rest = rest
 
   -- blocks of a tight list or not, with something before them in their line or not
-  pub blocks_trees : Bool → Bool → Blocks → SpelledForest
-  blocks_trees is_tight is_in_line no_blocks = none
-  blocks_trees is_tight is_in_line (block b bs) =
-      begun_line is_in_line (is_bare is_tight b)
-      (block_trees is_tight b (blocks_trees is_tight (is_bare is_tight b) bs))
+  pub blocks_open : Bool → Bool → Blocks → Open
+  blocks_open is_tight is_in_line no_blocks = record { first = none; behind = [] }
+  blocks_open is_tight is_in_line (block b bs) =
+      onto (λ ts. begun_line is_in_line (is_bare is_tight b) (block_trees is_tight b ts))
+      (with_html b (blocks_open is_tight (is_bare is_tight b) bs))
 
   pub items_trees : Bool → Items → SpelledForest
   items_trees is_tight no_items = none
   items_trees is_tight (item bs rest) =
-      element_before (codes "li") [] (blocks_trees is_tight true bs) (line_end (items_trees is_tight rest))
+      element_before (codes "li") [] (blocks_open is_tight true bs).first (line_end (items_trees is_tight rest))
+
+abbrev pub blocks_trees : Bool → Bool → Blocks → SpelledForest
+blocks_trees is_tight is_in_line bs = (blocks_open is_tight is_in_line bs).first
 
 -- the HTML of what is read, as trees that are spelled
 abbrev pub spelled_of : Blocks → SpelledForest

@@ -1,11 +1,12 @@
 -- HTML as it is spelled: the trees that it is of, and with them what their tags look like. As in the examples of
 -- CommonMark, quotation marks and greater-than signs are references everywhere, and the tags of void elements end in a
 -- slash, but for GitHub's `input` and for breaks that are written as raw HTML.
-use Rattle.std.specs.Prelude.{ℕ, suc, max, ◌||◌, if◌then◌else◌, List, [], ◌++◌, codes}
+use Rattle.std.specs.Prelude.{ℕ, suc, max, ◌||◌, if◌then◌else◌, List, [], ◌∷◌, ◌++◌, codes}
 use Rattle.std.specs.Str.{bytes_eq}
 use Rattle.std.specs.List.{flat_map}
 use Rattle.htmd_lexical.specs.AttributePairs.{AttributePair}
-use Rattle.htmd_document.specs.Tags.{escaped_value}
+use Rattle.htmd_lexical.specs.CharacterClasses.{is_among}
+use Rattle.htmd_document.specs.Tags.{escaped_value, escaped_text}
 use Rattle.htmd_values.specs.ValueTrees as value
 use Rattle.htmd_values.specs.ValueTrees.{ValueTree, ValueForest}
 use Rattle.htmd_values.specs.Serialisation.{is_void, end_tag}
@@ -21,25 +22,40 @@ mutual
   pub data Spelled : Type 0 where
     text : (s : List ℕ) → Spelled
     element : (form : TagForm) (name : List ℕ) (attributes : List AttributePair) (content : SpelledForest) → Spelled
+    -- an element around nothing or a text, in one line as documents write it
+    lone : (name : List ℕ) (attributes : List AttributePair) (s : List ℕ) → Spelled
+    -- rows of a table, in a section that has no tags
+    section : (rows : SpelledForest) → Spelled
 
   pub data SpelledForest : Type 0 where
     none : SpelledForest
     more : (tree : Spelled) (trees : SpelledForest) → SpelledForest
+
+abbrev pub lone_text : List ℕ → ValueForest
+lone_text [] = value.none
+lone_text (b ∷ s) = value.more (value.text (b ∷ s)) value.none
 
 abbrev mutual
   -- a tree without the forms of its tags
   pub value_tree : Spelled → ValueTree
   value_tree (text s) = value.text s
   value_tree (element form name attributes content) = value.element name attributes (value_forest content)
+  value_tree (lone name attributes s) = value.element name attributes (lone_text s)
+  value_tree (section rows) = value.element (codes "tbody") [] (value_forest rows)
 
   pub value_forest : SpelledForest → ValueForest
   value_forest none = value.none
   value_forest (more t ts) = value.more (value_tree t) (value_forest ts)
 
--- ids, and the titles of abbreviations, are spelled as documents spell them
+-- the attributes that tags of documents have
+abbrev pub document_keys : List (List ℕ)
+document_keys =
+    codes "id" ∷ codes "open" ∷ codes "border" ∷ codes "colspan" ∷ codes "rowspan" ∷ codes "align" ∷ []
+
+-- these, and the titles of abbreviations, are spelled as documents spell them
 abbrev pub value_in : List ℕ → List ℕ → List ℕ → List ℕ
 value_in name key v =
-    if bytes_eq name (codes "abbr") || bytes_eq key (codes "id") then escaped_value v else escaped v
+    if bytes_eq name (codes "abbr") || is_among document_keys key then escaped_value v else escaped v
 
 abbrev pub attribute_in : List ℕ → AttributePair → List ℕ
 attribute_in name a = attribute a.name (value_in name a.name a.value)
@@ -63,6 +79,8 @@ abbrev mutual
       if is_void name
       then tag form name attributes
       else tag form name attributes ++ all_spelled content ++ end_tag name
+  spelled (lone name attributes s) = tag spaced name attributes ++ escaped_text s ++ end_tag name
+  spelled (section rows) = all_spelled rows
 
   pub all_spelled : SpelledForest → List ℕ
   all_spelled none = []
@@ -73,6 +91,8 @@ abbrev mutual
   pub levels_of : Spelled → ℕ
   levels_of (text s) = 1
   levels_of (element form name attributes content) = suc (levels content)
+  levels_of (lone name attributes s) = 2
+  levels_of (section rows) = suc (levels rows)
 
   pub levels : SpelledForest → ℕ
   levels none = 0

@@ -2,7 +2,7 @@
 ghost use Rattle.htmd_law_rendering.specs.RenderingLaws.{RenderedIsSpelled, RenderedIsRead, RenderedIsParsed};
 ghost use Rattle.htmd_law_rendering.specs.RenderingLaws.{SeenIsPaired, SeenIsStrict};
 
-/// The HTML of what is read, if raw tags pair, is what its trees are spelled as.
+/// The HTML of what is read, if raw tags and lines of tags pair, is what its trees are spelled as.
 pub fn rendered_is_spelled()
     ensures { RenderedIsSpelled }
 {}
@@ -18,13 +18,13 @@ pub fn rendered_is_parsed()
     ensures { RenderedIsParsed }
 {}
 
-/// Raw tags pair in each text in which one sees a flat document without elements.
+/// Raw tags and lines of tags pair in each text in which one sees a document.
 pub fn seen_is_paired()
     ensures { SeenIsPaired }
 {}
 
-/// No link or anchor stands in a link, and headings have six levels, in each text in which one sees a flat document in
-/// normal form.
+/// No link or anchor stands in a link, headings have six levels, and elements stand where HTML allows them, in each
+/// text in which one sees such a document in normal form.
 pub fn seen_is_strict()
     ensures { SeenIsStrict }
 {}
