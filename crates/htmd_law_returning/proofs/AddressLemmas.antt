@@ -42,7 +42,7 @@ black-byte b h = grind (arith, nat_tests, h)
 in-address : (b : ℕ) → is_space_or_control b ≡ false → is_in_address b ≡ true
 in-address b h = grind (arith, nat_tests, h)
 
-ascii-bytes : (s : List ℕ) → list_all stays_in_address s ≡ true → IsAscii s
+pub ascii-bytes : (s : List ℕ) → list_all stays_in_address s ≡ true → IsAscii s
 ascii-bytes [] h i = omega arith
 ascii-bytes (b ∷ s) h zero = low-byte b (and_parts (stays_in_address b) (list_all stays_in_address s) h).0
 ascii-bytes (b ∷ s) h (suc i) = ascii-bytes s (and_parts (stays_in_address b) (list_all stays_in_address s) h).1 i

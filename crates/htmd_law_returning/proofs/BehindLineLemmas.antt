@@ -1,14 +1,17 @@
 -- What shows of a line with blocks behind it: what shows of the line, its end, and what shows of the blocks.
 use Rattle.std.proofs.Common.{◌≡◌, ℕ, suc, ◌+◌, Bool, true, false, ◌&&◌, ◌||◌, List, [], ◌∷◌}
 use Rattle.std.proofs.Common.{◌++◌, refl, sym, ap, ◌∙◌, arith, codes, subst, Option, Some, None}
-use Rattle.std.proofs.Common.{encode_utf8_all, filter}
-use Rattle.std.specs.Prelude.{fold}
+use Rattle.std.proofs.Common.{encode_utf8_all, filter, ◌⊎◌, inl, inr, ⊎_elim}
+use Rattle.std.proofs.Common.{◌≤◌, length}
+use Rattle.std.specs.Prelude.{fold, nat_le}
 use Rattle.std.specs.List.{list_any}
 use Rattle.std.specs.Str.{chars, IsUtf8}
 use Rattle.std.proofs.lemmas.Bool.{and_parts}
 use Rattle.std.proofs.lemmas.List.Sums.{fold-append}
 use Rattle.std.proofs.lemmas.List.Elements.{filter-append}
+use Rattle.std.proofs.lemmas.List.{length-append}
 use Rattle.std.proofs.lemmas.Str.{chars-append, encodes-append, IsUtf8-append, IsUtf8-from_is_utf8}
+use Rattle.htmd_lexical.specs.CharacterClasses.{is_empty}
 use Rattle.htmd_lexical.specs.Characters.{line_feed}
 use Rattle.htmd_lexical.specs.AttributePairs.{AttributePair}
 use Rattle.htmd_values.specs.ValueTrees as value
@@ -16,10 +19,9 @@ use Rattle.htmd_nodes.specs.NumberedTrees.{NumberedForest, value_forest}
 use Rattle.htmd_nodes.specs.NumberedTrees as page
 use Rattle.htmd_document.specs.Documents.{text, code, formatted, link, image, anchor, line_break, task}
 use Rattle.htmd_document.specs.Documents.{Inlines, no_inlines, inline}
-use Rattle.htmd_document.specs.Formats.{Format, Emphasis, Strong, Deleted, Superscript, Subscript, Inserted, Underlined}
-use Rattle.htmd_document.specs.Formats.{Marked, Small, Keyboard, Abbreviation}
+use Rattle.htmd_document.specs.Formats.{Format}
 use Rattle.htmd_document.specs.NormalInlines.{are_normal}
-use Rattle.htmd_document_of_tree.specs.Limits.{left_after, left_after_all}
+use Rattle.htmd_document_of_tree.specs.Limits.{characters, left_after, left_after_all}
 use Rattle.htmd_flow.specs.Flows.{node_of}
 use Rattle.htmd_flow.specs.Levels.{list_of}
 use Rattle.htmd_flow.specs.Paragraphs.{Writing, fed, fed_all, after_character}
@@ -34,21 +36,25 @@ use Rattle.htmd_shown.specs.SimpleTrees as simple
 use Rattle.htmd_law_rendering.specs.SpelledTrees as spelled
 use Rattle.htmd_law_rendering.specs.SpelledTrees.{SpelledForest, value_forest as forest_of}
 use Rattle.htmd_law_rendering.specs.RenderedTrees.{line_end, format_name, encoded_address, pairs_of_image}
-use Rattle.htmd_law_rendering.specs.RenderedTrees.{pairs_of_link}
-use Rattle.htmd_law_returning.specs.SettledDocuments.{is_marked}
+use Rattle.htmd_law_rendering.specs.RenderedTrees.{pairs_of_link, pairs_of_format}
+use Rattle.htmd_law_returning.specs.PageFormats.{format_shows, line_shows}
 use Rattle.htmd_law_returning.proofs.BareLemmas.{is_bare, are_bare}
-use Rattle.htmd_law_returning.proofs.CostLemmas.{AllSpend}
+use Rattle.htmd_law_returning.proofs.CostLemmas.{AllSpend, said_sizes}
 use Rattle.htmd_law_returning.proofs.FlowLemmas.{here, parts_of, text-parts, none-parts}
-use Rattle.htmd_law_returning.proofs.HeldLemmas.{are_black_ended, are_held}
-use Rattle.htmd_law_returning.proofs.InlineLemmas.{format_role, no-format-pairs, line-end-utf8, line-end-text}
+use Rattle.htmd_law_returning.proofs.HeldLemmas.{are_held}
+use Rattle.htmd_law_returning.proofs.FormatLemmas.{format_role, format-inline, format-unbroken}
+use Rattle.htmd_law_returning.proofs.InlineLemmas.{line-end-utf8, line-end-text}
 use Rattle.htmd_law_returning.proofs.InlineLemmas.{line-end-characters, line-end-bytes, line-end-shown}
-use Rattle.htmd_law_returning.proofs.LineEndLemmas.{ended_before}
+use Rattle.htmd_law_returning.proofs.LineEndLemmas.{ended_before, letter-ended}
 use Rattle.htmd_law_returning.proofs.LineFormLemmas.{normal-one, settled-one}
 use Rattle.htmd_law_returning.proofs.OrderLemmas.{is_ordered, ordered-next, ordered-less}
-use Rattle.htmd_law_returning.proofs.PageLemmas.{from-text, from-element, IsFresh, fresh-next, shown_of}
+use Rattle.htmd_law_returning.proofs.PageLemmas.{IsElement, from-text, from-element, IsFresh, fresh-next, shown_of}
 use Rattle.htmd_law_returning.proofs.PageLemmas.{line-shown, none-shown}
 use Rattle.htmd_law_returning.proofs.ShownLineLemmas.{text-at, code-at, break-at, image-at, link-plain, format-at}
-use Rattle.htmd_law_returning.proofs.StartLemmas.{false-true}
+use Rattle.htmd_law_returning.proofs.BreakLemmas.{some-text}
+use Rattle.htmd_law_returning.proofs.StandLemmas.{is_break, Stands, Lacks, beside, stands-behind, begins_filled}
+use Rattle.htmd_law_returning.proofs.StandLemmas.{lacks-end, end-lacks}
+use Rattle.htmd_law_returning.proofs.StartLemmas.{false-true, true-false}
 use Rattle.htmd_law_returning.proofs.TextLemmas.{text-line}
 use Rattle.htmd_law_returning.proofs.TreesLemmas.{spelled_line}
 
@@ -82,6 +88,13 @@ or-assoc : (a b c : Bool) → (a || (b || c)) ≡ ((a || b) || c)
 or-assoc true b c = refl
 or-assoc false b c = refl
 
+-- a text is no longer than with more behind it
+longer : (s : List ℕ) → IsUtf8 s → characters s ≤ characters (s ++ line_feed ∷ [])
+longer s u =
+    let e : length (chars (s ++ line_feed ∷ [])) ≡ length (chars s) + length (chars (line_feed ∷ [])) =
+    ap length (chars-append s (line_feed ∷ []) u) ∙ length-append (chars s) (chars (line_feed ∷ [])) in
+    omega (arith, e)
+
 -- ---- nodes behind nodes
 
 module _ (is_rich : Bool) (n : ℕ) where
@@ -89,6 +102,7 @@ module _ (is_rich : Bool) (n : ℕ) where
   pub record IsExtended (us vs ts : Simples) : Type 0 where
     pub bare : are_bare vs ≡ true → are_bare ts ≡ true → are_bare us ≡ true
     pub spends : (l : Option ℕ) → left_after_all l us ≡ left_after_all (left_after_all l vs) ts
+    pub said : said_sizes vs + said_sizes ts ≤ said_sizes us
     pub kinds : list_any (has is_paragraph) (list_of us)
         ≡ (list_any (has is_paragraph) (list_of vs) || list_any (has is_paragraph) (list_of ts))
     pub gives : (w : Writing) → fed_all w (parts_of is_rich n us)
@@ -103,6 +117,7 @@ module _ (is_rich : Bool) (n : ℕ) where
   end-extended ts = record {
     bare = λ h e. e;
     spends = λ l. refl;
+    said = omega arith;
     kinds = refl;
     gives = λ w. ap (fed_all w) (text-parts is_rich n 0 (line_feed ∷ []) ts)
         ∙ ap (λ ps. fed_all (fed (fed_all w ps) (run (line_feed ∷ []) [] false)) (parts_of is_rich n ts))
@@ -114,6 +129,7 @@ module _ (is_rich : Bool) (n : ℕ) where
   text-extended s ts u = record {
     bare = λ h e. e;
     spends = λ l. refl;
+    said = let more_said = longer s u in omega (arith, more_said);
     kinds = refl;
     gives = λ w. ap (fed_all w) (text-parts is_rich n 0 (s ++ line_feed ∷ []) ts)
         ∙ (ap (λ v. fed_all v (parts_of is_rich n ts)) (text-fed w s u)
@@ -140,6 +156,7 @@ module _ (is_rich : Bool) (n : ℕ) where
             let parts = and_parts (is_bare t) (are_bare vs) b in
             ap (λ x. x && are_bare us) parts.0 ∙ own.bare parts.1 e;
         spends = λ l. own.spends (left_after l t);
+        said = omega (arith, own.said);
         kinds = ap (λ x. has is_paragraph t || x) own.kinds
             ∙ or-assoc (has is_paragraph t) (list_any (has is_paragraph) (list_of vs))
             (list_any (has is_paragraph) (list_of ts));
@@ -151,32 +168,22 @@ module _ (is_rich : Bool) (n : ℕ) where
       }
 
 -- what both cost
-pub both-spent : (is_rich : Bool) (n j k : ℕ) (us vs ts : Simples) → IsExtended is_rich n us vs ts
-    → AllSpend j vs → AllSpend k ts → AllSpend (j + k) us
-both-spent is_rich n j k us vs ts own first later a h =
-    let (m, line) = first a (omega (arith, h)) in
-    let (i, rest) = later m (omega (arith, h, line.1)) in (
-      i,
-      (
-        own.spends (Some a) ∙ (ap (λ l. left_after_all l ts) line.0 ∙ rest.0),
-        omega (arith, line.1, rest.1),
+pub both-spent : {p q : ℕ} → (is_rich : Bool) (n j k : ℕ) (us vs ts : Simples) → IsExtended is_rich n us vs ts
+    → AllSpend j p vs → AllSpend k q ts → AllSpend (j + k) (p + q) us
+both-spent is_rich n j k us vs ts own first later = (
+  λ a h.
+      let (m, line) = first.0 a (omega (arith, h)) in
+      let (i, rest) = later.0 m (omega (arith, h, line.1)) in (
+        i,
+        (
+          own.spends (Some a) ∙ (ap (λ l. left_after_all l ts) line.0 ∙ rest.0),
+          omega (arith, line.1, rest.1),
+        ),
       ),
-    )
+  omega (arith, first.1, later.1, own.said),
+)
 
 -- ---- the trees of a line
-
-is_format_item : (m : Format) → is_item (format_role m) ≡ false
-is_format_item Emphasis = refl
-is_format_item Strong = refl
-is_format_item Deleted = refl
-is_format_item Superscript = refl
-is_format_item Subscript = refl
-is_format_item Inserted = refl
-is_format_item Underlined = refl
-is_format_item Marked = refl
-is_format_item Small = refl
-is_format_item Keyboard = refl
-is_format_item (Abbreviation title) = refl
 
 module _ (scripting is_rich : Bool) where
   -- an element that shows the same whatever follows it
@@ -189,21 +196,27 @@ module _ (scripting is_rich : Bool) where
 
   pub data AreSteady : SpelledForest → Type 0 where
     no_trees : AreSteady spelled.none
-    text_first : (s : List ℕ) (ts : SpelledForest) → IsUtf8 s → shown_text s ≡ s → AreSteady ts
-        → AreSteady (spelled.more (spelled.text s) ts)
+    text_first : (s : List ℕ) (ts : SpelledForest) → IsUtf8 s → shown_text s ≡ s → is_empty s ≡ false
+        → AreSteady ts → AreSteady (spelled.more (spelled.text s) ts)
     element_first : (form : spelled.TagForm) (name : List ℕ) (attributes : List AttributePair)
-        (content ts : SpelledForest) → IsSteady name attributes → AreSteady ts
+        (content ts : SpelledForest) → IsSteady name attributes → is_break name ≡ false → AreSteady ts
         → AreSteady (spelled.more (spelled.element form name attributes content) ts)
+    break_first : (ts : SpelledForest) → AreSteady ts → AreSteady (line_end ts)
+        → AreSteady (spelled.more (spelled.element spelled.spaced (codes "br") [] spelled.none) (line_end ts))
 
   steady-end : (ts : SpelledForest) → AreSteady ts → AreSteady (line_end ts)
   steady-end ts no_trees =
-      text_first (line_feed ∷ []) spelled.none line-end-whole line-end-text no_trees
-  steady-end us (text_first s ts u shown rest) =
+      text_first (line_feed ∷ []) spelled.none line-end-whole line-end-text refl no_trees
+  steady-end us (text_first s ts u shown some rest) =
       text_first (line_feed ∷ s) ts (IsUtf8-append (line_feed ∷ []) s line-end-whole u) (line-end-shown s shown)
-      rest
-  steady-end us (element_first form name attributes content ts own rest) =
+      refl rest
+  steady-end us (element_first form name attributes content ts own unbroken rest) =
       text_first (line_feed ∷ []) (spelled.more (spelled.element form name attributes content) ts) line-end-whole
-      line-end-text (element_first form name attributes content ts own rest)
+      line-end-text refl (element_first form name attributes content ts own unbroken rest)
+  steady-end us (break_first ts rest ended) =
+      text_first (line_feed ∷ [])
+      (spelled.more (spelled.element spelled.spaced (codes "br") [] spelled.none) (line_end ts)) line-end-whole
+      line-end-text refl (break_first ts rest ended)
 
   code-steady : IsSteady (codes "code") []
   code-steady = record {
@@ -212,18 +225,11 @@ module _ (scripting is_rich : Bool) where
     no_item = λ id inside. refl;
   }
 
-  break-steady : IsSteady (codes "br") []
-  break-steady = record {
-    tree = λ id inside. made id role.LineBreak [] none;
-    is = λ before id inside f fresh. break-at scripting is_rich false before id inside f fresh;
-    no_item = λ id inside. refl;
-  }
-
-  format-steady : (m : Format) → is_marked m ≡ true → IsSteady (format_name m) []
-  format-steady m marked = record {
-    tree = λ id inside. made id (format_role m) [] (shown_of scripting is_rich None inside);
-    is = λ before id inside f fresh. format-at scripting is_rich false before id inside f m marked fresh;
-    no_item = λ id inside. is_format_item m;
+  format-steady : (m : Format) → format_shows is_rich m ≡ true → IsSteady (format_name m) (pairs_of_format m)
+  format-steady m shows = record {
+    tree = λ id inside. made id (format_role m) (pairs_of_format m) (shown_of scripting is_rich None inside);
+    is = λ before id inside f fresh. format-at scripting is_rich false before id inside f m shows fresh;
+    no_item = λ id inside. (format-inline m).no_item;
   }
 
   link-steady : (a : List ℕ) (t : Option (List ℕ)) → IsSteady (codes "a") (pairs_of_link a t)
@@ -241,38 +247,39 @@ module _ (scripting is_rich : Bool) where
   }
 
   pub steady-line : (xs : Inlines) (b : Bool) (fs : List Format) → are_normal b fs xs ≡ true
-      → are_held xs ≡ true
+      → are_held xs ≡ true → line_shows is_rich xs ≡ true
       → AreSteady (spelled_line xs)
-  steady-line no_inlines b fs normal h = no_trees
-  steady-line (inline (text s) xs) b fs normal h =
+  steady-line no_inlines b fs normal h formats = no_trees
+  steady-line (inline (text s) xs) b fs normal h formats =
       let good = normal-one b fs (text s) xs normal in
       let own = settled-one (text s) xs h in
       let l = text-line s own.own good.own in
-      text_first s (spelled_line xs) l.utf8 l.shown (steady-line xs b fs good.rest own.rest)
-  steady-line (inline (code s) xs) b fs normal h =
-      element_first spelled.spaced (codes "code") [] _ (spelled_line xs) code-steady
-      (steady-line xs b fs (normal-one b fs (code s) xs normal).rest (settled-one (code s) xs h).rest)
-  steady-line (inline (formatted m c) xs) b fs normal h =
-      let own = settled-one (formatted m c) xs h in
-      let signs = and_parts (is_marked m) (are_black_ended c)
-      (and_parts (is_marked m && are_black_ended c) (are_held c) own.own).0 in
-      element_first spelled.spaced (format_name m) _ (spelled_line c) (spelled_line xs)
-      (subst (λ (a : List AttributePair). IsSteady (format_name m) a) (sym (no-format-pairs m signs.0))
-      (format-steady m signs.0))
-      (steady-line xs b fs (normal-one b fs (formatted m c) xs normal).rest own.rest)
-  steady-line (inline (link a t c) xs) b fs normal h =
+      text_first s (spelled_line xs) l.utf8 l.shown (some-text s good.own)
+      (steady-line xs b fs good.rest own.rest formats)
+  steady-line (inline (code s) xs) b fs normal h formats =
+      element_first spelled.spaced (codes "code") [] _ (spelled_line xs) code-steady refl
+      (steady-line xs b fs (normal-one b fs (code s) xs normal).rest (settled-one (code s) xs h).rest formats)
+  steady-line (inline (formatted m c) xs) b fs normal h formats =
+      let shows = and_parts (format_shows is_rich m && line_shows is_rich c) (line_shows is_rich xs) formats in
+      element_first spelled.spaced (format_name m) (pairs_of_format m) (spelled_line c) (spelled_line xs)
+      (format-steady m (and_parts (format_shows is_rich m) (line_shows is_rich c) shows.0).0) (format-unbroken m)
+      (steady-line xs b fs (normal-one b fs (formatted m c) xs normal).rest (settled-one (formatted m c) xs h).rest
+      shows.1)
+  steady-line (inline (link a t c) xs) b fs normal h formats =
       element_first spelled.spaced (codes "a") (pairs_of_link a t) (spelled_line c) (spelled_line xs) (link-steady a t)
-      (steady-line xs b fs (normal-one b fs (link a t c) xs normal).rest (settled-one (link a t c) xs h).rest)
-  steady-line (inline (image a t d) xs) b fs normal h =
+      refl
+      (steady-line xs b fs (normal-one b fs (link a t c) xs normal).rest (settled-one (link a t c) xs h).rest
+      (and_parts (line_shows is_rich c) (line_shows is_rich xs) formats).1)
+  steady-line (inline (image a t d) xs) b fs normal h formats =
       element_first spelled.spaced (codes "img") (pairs_of_image a t d) spelled.none (spelled_line xs)
-      (image-steady a t d)
-      (steady-line xs b fs (normal-one b fs (image a t d) xs normal).rest (settled-one (image a t d) xs h).rest)
-  steady-line (inline (anchor id) xs) b fs normal h = false-true (settled-one (anchor id) xs h).own
-  steady-line (inline line_break xs) b fs normal h =
-      element_first spelled.spaced (codes "br") [] spelled.none (line_end (spelled_line xs)) break-steady
-      (steady-end (spelled_line xs)
-      (steady-line xs b fs (normal-one b fs line_break xs normal).rest (settled-one line_break xs h).rest))
-  steady-line (inline (task d) xs) b fs normal h = false-true (settled-one (task d) xs h).own
+      (image-steady a t d) refl
+      (steady-line xs b fs (normal-one b fs (image a t d) xs normal).rest (settled-one (image a t d) xs h).rest formats)
+  steady-line (inline (anchor id) xs) b fs normal h formats = false-true (settled-one (anchor id) xs h).own
+  steady-line (inline line_break xs) b fs normal h formats =
+      let rest = steady-line xs b fs (normal-one b fs line_break xs normal).rest (settled-one line_break xs h).rest
+      formats in
+      break_first (spelled_line xs) rest (steady-end (spelled_line xs) rest)
+  steady-line (inline (task d) xs) b fs normal h formats = false-true (settled-one (task d) xs h).own
 
   -- ---- both parts
 
@@ -283,15 +290,63 @@ module _ (scripting is_rich : Bool) where
     pub back : NumberedForest
     pub last : Option (List AttributePair)
     pub fresh : IsFresh last
-    pub line : value_forest front ≡ forest_of ts
-    pub others : value_forest back ≡ forest_of rest
+    pub line : Stands (value_forest front) (forest_of ts)
+    pub others : Stands (value_forest back) (forest_of rest)
     pub first_ordered : is_ordered k front ≡ true
     pub ordered : is_ordered 0 back ≡ true
     pub extended : IsExtended is_rich n (shown_of scripting is_rich before f)
         (shown_of scripting is_rich before front) (shown_of scripting is_rich last back)
 
+  steady-filled : (ts : SpelledForest) → AreSteady ts → begins_filled ts ≡ true
+  steady-filled ts no_trees = refl
+  steady-filled us (text_first [] ts u shown some rest) = true-false some
+  steady-filled us (text_first (b ∷ s) ts u shown some rest) = refl
+  steady-filled us (element_first form name attributes content ts own unbroken rest) = refl
+  steady-filled us (break_first ts rest ended) = refl
+
+  ended-filled : (rest ts : SpelledForest) → AreSteady ts → begins_filled (ended_before rest ts) ≡ true
+  ended-filled rest ts no_trees = refl
+  ended-filled rest us (text_first [] ts u shown some steady) = true-false some
+  ended-filled rest us (text_first (b ∷ s) spelled.none u shown some steady) = refl
+  ended-filled rest us (text_first (b ∷ s) (spelled.more t ts) u shown some steady) = refl
+  ended-filled rest us (element_first form name attributes content ts own unbroken steady) = refl
+  ended-filled rest us (break_first ts steady ended) = refl
+
+  -- a break before nodes that are split
+  break-split : (us rest : SpelledForest) (n k : ℕ) (before : Option (List AttributePair)) (f : NumberedForest)
+      → IsFresh before
+      → (found : IsElement f (codes "br") [] value.none (forest_of (ended_before rest (line_end us))))
+      → nat_le k found.id ≡ true → is_ordered 0 found.inside ≡ true → (ts : SpelledForest)
+      → (inner : IsSplit n (suc found.id) (Some []) found.rest ts rest)
+      → (Stands (value_forest inner.front) (forest_of (line_end us))
+      ⊎ Lacks (value_forest inner.front) (forest_of (line_end us)))
+      → IsSplit n k before f
+      (spelled.more (spelled.element spelled.spaced (codes "br") [] spelled.none) (line_end us)) rest
+  break-split us rest n k before f fresh found least inside ts inner line =
+      let front : NumberedForest = page.more (page.element found.id (codes "br") [] found.inside) inner.front in
+      record {
+        front = front;
+        back = inner.back;
+        last = inner.last;
+        fresh = inner.fresh;
+        line = (value_forest found.inside, value_forest inner.front, refl, found.within, line);
+        others = inner.others;
+        first_ordered = ap (λ b. (b && is_ordered 0 found.inside) && is_ordered (suc found.id) inner.front) least
+            ∙ (ap (λ b. b && is_ordered (suc found.id) inner.front) inside ∙ inner.first_ordered);
+        ordered = inner.ordered;
+        extended = from-shown is_rich n (shown_of scripting is_rich before f)
+            (shown_of scripting is_rich before front) (shown_of scripting is_rich inner.last inner.back)
+            (ap (shown_of scripting is_rich before) found.is
+            ∙ break-at scripting is_rich false before found.id found.inside found.rest fresh)
+            (break-at scripting is_rich false before found.id found.inside inner.front fresh)
+            (more-extended is_rich n (made found.id role.LineBreak [] none)
+            (shown_of scripting is_rich (Some []) found.rest)
+            (shown_of scripting is_rich (Some []) inner.front)
+            (shown_of scripting is_rich inner.last inner.back) refl inner.extended);
+      }
+
   pub split : (ts rest : SpelledForest) (n k : ℕ) (before : Option (List AttributePair)) (f : NumberedForest)
-      → AreSteady ts → IsFresh before → value_forest f ≡ forest_of (ended_before rest ts)
+      → AreSteady ts → IsFresh before → Stands (value_forest f) (forest_of (ended_before rest ts))
       → is_ordered k f ≡ true → IsSplit n k before f ts rest
   split ts rest n k before f no_trees fresh e o =
       let found = from-text f (line_feed ∷ []) (forest_of rest) e in
@@ -312,7 +367,7 @@ module _ (scripting is_rich : Bool) where
             ∙ line-shown scripting is_rich before found.id found.rest)
             (none-shown scripting is_rich before) (end-extended is_rich n ts);
       }
-  split trees rest n k before f (text_first s spelled.none u shown steady) fresh e o =
+  split trees rest n k before f (text_first s spelled.none u shown some steady) fresh e o =
       let found = from-text f (s ++ line_feed ∷ []) (forest_of rest) e in
       let order = ordered-next k f (page.text found.id (s ++ line_feed ∷ [])) found.rest found.is o in
       let ts : Simples = shown_of scripting is_rich before found.rest in
@@ -321,7 +376,7 @@ module _ (scripting is_rich : Bool) where
         back = found.rest;
         last = before;
         fresh = fresh;
-        line = refl;
+        line = (value.none, refl, refl);
         others = found.others;
         first_ordered = ap (λ b. (b && true) && true) order.least;
         ordered = ordered-less 0 (suc found.id) found.rest (omega arith) order.rest;
@@ -335,7 +390,7 @@ module _ (scripting is_rich : Bool) where
             ∙ ap (more (simple.text s)) (none-shown scripting is_rich before)))
             (text-extended is_rich n s ts u);
       }
-  split trees rest n k before f (text_first s (spelled.more t us) u shown steady) fresh e o =
+  split trees rest n k before f (text_first s (spelled.more t us) u shown some steady) fresh e o =
       let found = from-text f s (forest_of (ended_before rest (spelled.more t us))) e in
       let order = ordered-next k f (page.text found.id s) found.rest found.is o in
       let inner = split (spelled.more t us) rest n (suc found.id) before found.rest steady fresh found.others
@@ -346,7 +401,7 @@ module _ (scripting is_rich : Bool) where
         back = inner.back;
         last = inner.last;
         fresh = inner.fresh;
-        line = ap (value.more (value.text s)) inner.line;
+        line = (value_forest inner.front, refl, inner.line);
         others = inner.others;
         first_ordered = ap (λ b. (b && true) && is_ordered (suc found.id) inner.front) order.least
             ∙ inner.first_ordered;
@@ -361,19 +416,25 @@ module _ (scripting is_rich : Bool) where
             (shown_of scripting is_rich before inner.front) (shown_of scripting is_rich inner.last inner.back) refl
             inner.extended);
       }
-  split trees rest n k before f (element_first form name attributes content us own steady) fresh e o =
+  split trees rest n k before f (element_first form name attributes content us own unbroken steady) fresh e o =
       let found = from-element f name attributes (forest_of content) (forest_of (ended_before rest us)) e in
       let order = ordered-next k f (page.element found.id name attributes found.inside) found.rest found.is o in
       let inner = split us rest n (suc found.id) (Some attributes) found.rest steady (fresh-next attributes)
-      found.others order.rest in
+      (beside (is_break name) (value_forest found.rest) (forest_of (ended_before rest us)) unbroken found.others)
+      order.rest in
       let front : NumberedForest = page.more (page.element found.id name attributes found.inside) inner.front in
       record {
         front = front;
         back = inner.back;
         last = inner.last;
         fresh = inner.fresh;
-        line = ap (λ c. value.more (value.element name attributes c) (value_forest inner.front)) found.within
-            ∙ ap (value.more (value.element name attributes (forest_of content))) inner.line;
+        line = (
+          value_forest found.inside,
+          value_forest inner.front,
+          refl,
+          found.within,
+          stands-behind (is_break name) (value_forest inner.front) (forest_of us) inner.line,
+        );
         others = inner.others;
         first_ordered = ap (λ b. (b && is_ordered 0 found.inside) && is_ordered (suc found.id) inner.front) order.least
             ∙ (ap (λ b. b && is_ordered (suc found.id) inner.front) order.inside ∙ inner.first_ordered);
@@ -387,3 +448,18 @@ module _ (scripting is_rich : Bool) where
             (shown_of scripting is_rich (Some attributes) inner.front)
             (shown_of scripting is_rich inner.last inner.back) (own.no_item found.id found.inside) inner.extended);
       }
+  split trees rest n k before f (break_first us steady ended) fresh e o =
+      let found = from-element f (codes "br") [] value.none (forest_of (ended_before rest (line_end us))) e in
+      let order = ordered-next k f (page.element found.id (codes "br") [] found.inside) found.rest found.is o in
+      ⊎_elim
+      (λ s.
+      let inner = split (line_end us) rest n (suc found.id) (Some []) found.rest ended (fresh-next []) s order.rest in
+      break-split us rest n k before f fresh found order.least order.inside (line_end us) inner (inl inner.line))
+      (λ s.
+      let inner = split us rest n (suc found.id) (Some []) found.rest steady (fresh-next [])
+      (lacks-end (value_forest found.rest) (ended_before rest us) (ended-filled rest us steady)
+      (subst (λ ts. Lacks (value_forest found.rest) (forest_of ts)) (sym (letter-ended line_feed rest us)) s))
+      order.rest in
+      break-split us rest n k before f fresh found order.least order.inside us inner
+      (inr (end-lacks (value_forest inner.front) us (steady-filled us steady) inner.line)))
+      found.others

@@ -1,7 +1,7 @@
 -- Code blocks: the text of one as a page shows it, and the language that its class names.
 use Rattle.std.proofs.Common.{◌≡◌, ℕ, Bool, true, false, not, ◌&&◌, ◌||◌, ◌==◌, cond, List, []}
 use Rattle.std.proofs.Common.{◌∷◌, ◌++◌, refl, sym}
-use Rattle.std.proofs.Common.{ap, ◌∙◌, arith, codes, length, filter, encode_utf8_all, Option, Some, None}
+use Rattle.std.proofs.Common.{ap, ◌∙◌, arith, codes, length, length-append, ◌+◌, ◌≤◌, filter, encode_utf8_all, Option, Some, None}
 use Rattle.std.specs.Prelude.{nat_le, flat_map}
 use Rattle.std.specs.Option.{option_or}
 use Rattle.std.specs.List.{list_all, list_any, slice_split, onto_first}
@@ -14,6 +14,7 @@ use Rattle.htmd_lexical.specs.Characters.{line_feed, carriage_return, null}
 use Rattle.htmd_lexical.specs.WhiteSpace.{is_ascii_white_space}
 use Rattle.htmd_lexical.specs.AttributePairs.{AttributePair}
 use Rattle.htmd_document.specs.NormalDocuments.{is_code_byte}
+use Rattle.htmd_document_of_tree.specs.Limits.{characters}
 use Rattle.htmd_shown.specs.declared.facts.Facts.{Facts}
 use Rattle.htmd_shown.specs.declared.role.Role.TheVariants as role
 use Rattle.htmd_shown.specs.AllTexts.{with_line_feeds, without_last_line_feed}
@@ -70,6 +71,7 @@ pub record IsShownCode (s : List ℕ) : Type 0 where
   pub black : is_blank_text (with_end s) ≡ false
   pub feeds : with_line_feeds (with_end s) ≡ with_end s
   pub cut : without_last_line_feed (with_end s) ≡ s
+  pub longer : characters s ≤ characters (with_end s)
 
 code-tree : (s : List ℕ) → is_blank_text s ≡ false
     → value_forest (code_trees s) ≡ value.more (value.text (with_end s)) value.none
@@ -97,7 +99,12 @@ code-shows s settled normal =
       feeds = no-returns (with_end s) v
           (list_any-append is_return s (line_feed ∷ []) ∙ ap (λ b. b || false) (no-returns-in s normal));
       cut = feed_cut s;
+      longer = longer (chars s) (chars (with_end s))
+          (ap length cs ∙ length-append (chars s) (line_feed ∷ []));
     }
+  where
+    longer : (s t : List ℕ) → length t ≡ length s + 1 → length s ≤ length t
+    longer s t h = omega (arith, h)
 
 -- ---- the language
 

@@ -1,9 +1,9 @@
 -- What blocks give one after another: each one begins where another one ends.
 use Rattle.std.proofs.Common.{◌≡◌, ℕ, suc, Bool, true, false, ◌&&◌, cond, List, [], ◌∷◌, ◌++◌}
-use Rattle.std.proofs.Common.{refl}
+use Rattle.std.proofs.Common.{refl, arith, ◌≤◌}
 use Rattle.std.proofs.Common.{ap, ◌∙◌, Option}
 use Rattle.std.proofs.Common.{◌==◌, length, sym}
-use Rattle.std.proofs.Common.{not, None, Some}
+use Rattle.std.proofs.Common.{not, None, Some, map, ◌||◌}
 use Rattle.std.specs.Prelude.{nat_le}
 use Rattle.std.specs.Prelude.{pos}
 use Rattle.std.specs.Str.{chars}
@@ -13,8 +13,11 @@ use Rattle.std.specs.List.{list_any}
 use Rattle.htmd_lexical.specs.AttributePairs.{AttributePair}
 use Rattle.htmd_lexical.specs.Characters.{line_feed}
 use Rattle.htmd_document.specs.DocumentLimits.{most_nested}
+use Rattle.htmd_document_of_tree.specs.Limits.{characters}
 use Rattle.htmd_document.specs.Documents.{Block, Blocks, no_blocks, block, paragraph, heading, quote, thematic_break}
 use Rattle.htmd_document.specs.Documents.{code_block}
+use Rattle.htmd_document.specs.Documents as documents
+use Rattle.htmd_document.specs.declared.document.BlockElement.TheVariants as name
 use Rattle.htmd_document.specs.Documents.{blocks_of}
 use Rattle.htmd_document.specs.TightItems.{is_filled}
 use Rattle.htmd_document.specs.TightItems.{is_paragraph}
@@ -27,11 +30,12 @@ use Rattle.htmd_flow.specs.Paragraphs.{Writing, broken_off, ended, fed, fed_all,
 use Rattle.htmd_flow.specs.Paragraphs.{is_box}
 use Rattle.htmd_flow.specs.Parts.{Part, run, edge, whole}
 use Rattle.htmd_flow.specs.Lists as lists
+use Rattle.htmd_flow.specs.RichNodes.{is_title_of, as_title, title_element, element_part, open_attribute}
 use Rattle.htmd_shown.specs.Roles as roles
 use Rattle.htmd_shown.specs.declared.role.Role.TheVariants as role
 use Rattle.htmd_shown.specs.declared.facts.Facts.{Facts}
 use Rattle.htmd_shown.specs.Facts.{made, facts_of}
-use Rattle.htmd_shown.specs.SimpleTrees.{Simple, Simples, text, none, more}
+use Rattle.htmd_shown.specs.SimpleTrees.{Simple, Simples, text, image, formula, embedded, anchor, element, none, more}
 use Rattle.htmd_law_returning.proofs.BareLemmas.{is_bare, are_bare, has_no_name}
 use Rattle.htmd_law_returning.proofs.PageLemmas.{frame}
 use Rattle.htmd_law_returning.proofs.PageLemmas.{and-false}
@@ -45,18 +49,19 @@ use Rattle.htmd_shown.specs.AllTexts.{with_line_feeds, without_last_line_feed}
 use Rattle.htmd_shown.specs.Spaces.{no_gap, is_blank_text}
 use Rattle.htmd_shown.specs.Kinds.{has}
 use Rattle.htmd_law_returning.specs.SettledDocuments.{weight_among, weight_of_block, weight_in}
-use Rattle.htmd_law_returning.specs.SettledDocuments.{weight_of_items}
+use Rattle.htmd_law_returning.specs.SettledDocuments.{weight_of_items, said_among, said_of_block, said_in}
+use Rattle.htmd_law_returning.specs.SettledDocuments.{said_of_items}
 use Rattle.htmd_law_returning.proofs.LineLemmas.{parts_in, IsFed, IsEntry, begin-all}
 use Rattle.htmd_law_returning.proofs.LineFormLemmas.{IsWhole}
 use Rattle.htmd_law_returning.proofs.LineLemmas.{Numbers}
 use Rattle.htmd_law_returning.proofs.LineLemmas.{is_rising}
 use Rattle.htmd_law_returning.proofs.NestLemmas.{whole-hole}
 use Rattle.htmd_law_returning.proofs.RunLemmas.{in_line}
-use Rattle.htmd_law_returning.proofs.InlineLemmas.{place}
-use Rattle.htmd_law_returning.proofs.StartLemmas.{clean, false-true, true-false}
+use Rattle.htmd_law_returning.proofs.FormatLemmas.{place}
+use Rattle.htmd_law_returning.proofs.StartLemmas.{clean, has_task, is_boxed, May, false-true, true-false}
 use Rattle.htmd_law_returning.proofs.StartLemmas.{Mode, in_blocks, in_item, one_line, is_flat_mode}
 use Rattle.htmd_law_returning.proofs.CostLemmas.{Spends, AllSpend, spend-element, spend-none, spend-more, spend-text}
-use Rattle.htmd_law_returning.proofs.CostLemmas.{spend-past}
+use Rattle.htmd_law_returning.proofs.CostLemmas.{spend-past, spend-words, spend-within}
 use Rattle.htmd_law_returning.proofs.ListLemmas.{made_items}
 use Rattle.htmd_law_returning.proofs.HeldLemmas.{are_held}
 use lib.Utf8.{encode}
@@ -195,7 +200,7 @@ entry-clean in_blocks done around c y e = refl
 entry-clean in_item done around c y e = refl
 entry-clean one_line done around c y e = refl
 
-line-fed : (flat : Mode) (done : List Block) (ns : Numbers) (xs : Inlines) → IsWhole xs → are_normal false [] xs
+pub line-fed : (flat : Mode) (done : List Block) (ns : Numbers) (xs : Inlines) → IsWhole xs → are_normal false [] xs
     ≡ true
     → are_held xs ≡ true → is_rising 0 ns xs ≡ true
     → IsFed flat done (λ ys. ys) [] whole-hole (clean flat done) (parts_in [] ns xs) xs
@@ -203,8 +208,12 @@ line-fed flat done ns xs ends normal settled rise =
     begin-all flat done xs false ns 0 (λ ys. ys) [] whole-hole [] (clean flat done) [] (entry-clean flat done)
     (λ g d r same o ms. refl) ends normal settled rise
 
+-- the line stands where a paragraph begins
+abbrev pub IsLineFed : Mode → List Block → Numbers → Inlines → Type 0
+IsLineFed mode done ns xs = IsFed mode done (λ ys. ys) [] whole-hole (clean mode done) (parts_in [] ns xs) xs
+
 -- the paragraph ends
-paragraph-ends : (mode : Mode) (xs : Inlines) (done : List Block) (ms : List Wrapper) (k : Bool) → has_none xs
+pub paragraph-ends : (mode : Mode) (xs : Inlines) (done : List Block) (ms : List Wrapper) (k : Bool) → has_none xs
     ≡ false
     → record (ended (in_line mode done xs ms k no_gap)) { met = met.Nothing } ≡ clean mode
     (done ++ paragraph xs ∷ [])
@@ -223,7 +232,7 @@ line-end mode xs done ms k free h =
     ∙ paragraph-ends mode xs done ms k h)
 
 -- the one line
-line-left : (xs : Inlines) (ms : List Wrapper) (k : Bool) → line_in (in_line one_line [] xs ms k no_gap) ≡ xs
+pub line-left : (xs : Inlines) (ms : List Wrapper) (k : Bool) → line_in (in_line one_line [] xs ms k no_gap) ≡ xs
 line-left xs ms true = refl
 line-left xs ms false = refl
 
@@ -235,24 +244,28 @@ some-heading level (inline x xs) h = refl
 -- the block that an element gives
 pub record GivesBlock (is_rich : Bool) (n : ℕ) (tree : Simple) (b : Block) : Type 0 where
   pub bare : is_bare tree ≡ true
-  pub spent : Spends (weight_of_block b) tree
+  pub spent : Spends (weight_of_block b) (said_of_block b) tree
   pub kind : has roles.is_paragraph tree ≡ is_paragraph b
-  pub gives : (mode : Mode) (w : Writing) (done : List Block) → IsReady mode w done → (ts : Simples)
+  pub untitled : has (is_title_of name.Summary) tree ≡ false
+  pub gives : (mode : Mode) (w : Writing) (done : List Block) → IsReady mode w done → May (is_boxed b) mode done
+      → (ts : Simples)
       → fed_all w (parts_of is_rich n (more tree ts))
       ≡ fed_all (clean mode (done ++ b ∷ [])) (parts_of is_rich n ts)
 
 module _ (is_rich : Bool) (n id : ℕ) where
   pub paragraph-gives : (content : Simples) (ns : Numbers) (xs : Inlines) → are_bare content ≡ true
-      → AllSpend (weight_among xs) content
-      → ((w : Writing) → fed_all w (parts_of is_rich n content) ≡ fed_all w (parts_in [] ns xs)) → IsWhole xs
-      → are_normal false [] xs ≡ true → are_held xs ≡ true → is_rising 0 ns xs ≡ true
+      → AllSpend (weight_among xs) (said_among xs) content
+      → ((w : Writing) → fed_all w (parts_of is_rich n content) ≡ fed_all w (parts_in [] ns xs))
+      → has_none xs ≡ false
+      → ((mode : Mode) (done : List Block) → May (has_task xs) mode done → IsLineFed mode done ns xs)
       → GivesBlock is_rich n (made id role.Paragraph [] content) (paragraph xs)
-  paragraph-gives content ns xs bare spent e ends normal settled rise = record {
+  paragraph-gives content ns xs bare spent e some line_of = record {
     bare = bare;
     spent = spend-element (weight_among xs) id role.Paragraph (facts_of content) [] content refl spent;
     kind = refl;
-    gives = λ mode w done h ts.
-        let line = line-fed mode done ns xs ends normal settled rise in
+    untitled = refl;
+    gives = λ mode w done h may ts.
+        let line = line_of mode done may in
         ap (fed_all w) (paragraph-parts is_rich n id content ts)
         ∙ (fold-append fed w (apart (parts_of is_rich n content)) (parts_of is_rich n ts)
         ∙ ap (λ v. fed_all v (parts_of is_rich n ts))
@@ -260,11 +273,11 @@ module _ (is_rich : Bool) (n id : ℕ) where
         ∙ ap (λ v. fed v edge)
         (ap (λ v. fed_all v (parts_of is_rich n content)) (edge-fed mode w done h)
         ∙ (e (clean mode done) ∙ line.is))
-        ∙ line-end mode xs done line.inner line.last (ready-flat mode w done h) ends.some));
+        ∙ line-end mode xs done line.inner line.last (ready-flat mode w done h) some));
   }
 
   pub heading-gives : (level : ℕ) (content : Simples) (ns : Numbers) (xs : Inlines) → are_bare content ≡ true
-      → AllSpend (weight_among xs) content
+      → AllSpend (weight_among xs) (said_among xs) content
       → ((w : Writing) → fed_all w (flow_all (nodes_of content) (place true is_rich n [])) ≡ fed_all w
       (parts_in [] ns xs))
       → IsWhole xs
@@ -274,7 +287,8 @@ module _ (is_rich : Bool) (n id : ℕ) where
     bare = bare;
     spent = spend-element (weight_among xs) id (role.Heading level) (facts_of content) [] content refl spent;
     kind = refl;
-    gives = λ mode w done h ts.
+    untitled = refl;
+    gives = λ mode w done h may ts.
         let line = line-fed one_line [] ns xs ends normal settled rise in
         let same : flow.line_of (flow_all (nodes_of content) (place true is_rich n [])) ≡ xs =
         ap line_in (e (clean one_line []) ∙ line.is) ∙ line-left xs line.inner line.last in
@@ -289,43 +303,120 @@ module _ (is_rich : Bool) (n id : ℕ) where
     bare = refl;
     spent = spend-element 0 id role.ThematicBreak (facts_of none) [] none refl spend-none;
     kind = refl;
-    gives = λ mode w done h ts.
+    untitled = refl;
+    gives = λ mode w done h may ts.
         ap (fed_all w) (break-parts is_rich n id ts)
         ∙ ap (λ v. fed_all v (parts_of is_rich n ts)) (whole-fed mode w done h thematic_break);
   }
 
   pub pre-gives : (own : ℕ) (attributes : List AttributePair) (t s : List ℕ) (language : Option (List ℕ))
       → has_no_name attributes ≡ true → is_blank_text t ≡ false → with_line_feeds t ≡ t
-      → without_last_line_feed t ≡ s
+      → without_last_line_feed t ≡ s → characters s ≤ characters t
       → language_of_block [] (made own role.Code attributes (more (text t) none) ∷ []) [] ≡ language
       → GivesBlock is_rich n (made id role.Preformatted [] (more
       (made own role.Code attributes (more (text t) none)) none))
       (code_block language s)
-  pre-gives own attributes t s language nameless black feeds cut named = record {
+  pre-gives own attributes t s language nameless black feeds cut longer named = record {
     bare = ap (λ b. (b && true) && true) nameless;
     spent =
         let inner : Simples = more (text t) none in
         let code_tree : Simple = made own role.Code attributes inner in
         spend-element 0 id role.Preformatted (facts_of (more code_tree none)) [] (more code_tree none) refl
+        (spend-within 0 0 (characters s) (more code_tree none) (omega arith) (omega (arith, longer))
         (spend-more 0 0 code_tree none (spend-element 0 own role.Code (facts_of inner) attributes inner refl
-        (spend-more 0 0 (text t) none (spend-text t) spend-none)) spend-none);
+        (spend-more 0 0 (text t) none (spend-words t) spend-none)) spend-none));
     kind = refl;
-    gives = λ mode w done h ts.
+    untitled = refl;
+    gives = λ mode w done h may ts.
         ap (fed_all w) (pre-parts is_rich n id own attributes t s language ts black feeds cut named)
         ∙ ap (λ v. fed_all v (parts_of is_rich n ts)) (apart-fed mode w done h (code_block language s));
   }
 
   pub quote-gives : (content : Simples) (d : Blocks) → nat_le most_nested n ≡ false → is_filled d ≡ true
-      → are_bare content ≡ true → AllSpend (weight_in d) content
+      → are_bare content ≡ true → AllSpend (weight_in d) (said_in d) content
       → flow.blocks_of false (parts_of is_rich (suc n) content) ≡ d
       → GivesBlock is_rich n (made id role.BlockQuote [] content) (quote d)
   quote-gives content d free filled bare spent e = record {
     bare = bare;
     spent = spend-element (weight_in d) id role.BlockQuote (facts_of content) [] content refl spent;
     kind = refl;
-    gives = λ mode w done h ts.
+    untitled = refl;
+    gives = λ mode w done h may ts.
         ap (fed_all w) (quote-parts is_rich n id content ts d free filled e)
         ∙ ap (λ v. fed_all v (parts_of is_rich n ts)) (apart-fed mode w done h (quote d));
+  }
+
+-- ---- elements
+
+-- the blocks between the tags of one
+pub blocks-inside : (is_rich : Bool) (n : ℕ) (ts : Simples) (bs : List Block)
+    → ((w : Writing) → IsReady in_blocks w [] → IsReady in_blocks (fed_all w (parts_of is_rich n ts)) bs)
+    → flow.blocks_of false (parts_of is_rich n (more (text (line_feed ∷ [])) ts)) ≡ blocks_of bs
+blocks-inside is_rich n ts bs ready =
+    let start : Writing = fed (clean in_blocks []) (run (line_feed ∷ []) [] false) in
+    ap (λ ps. flow.blocks_of false ps) (text-parts is_rich n 0 (line_feed ∷ []) ts)
+    ∙ ap blocks_of (all-done in_blocks (fed_all start (parts_of is_rich n ts)) bs
+    (ready start (line-ready in_blocks [] refl)))
+
+-- no title of a `details` is among them
+abbrev pub are_untitled : Simples → Bool
+are_untitled ts = list_any (has (is_title_of name.Summary)) (list_of ts)
+
+node-stays : (t : Simple) → has (is_title_of name.Summary) t ≡ false
+    → as_title name.Summary (node_of t) ≡ node_of t
+unfolding node_of
+node-stays (text s) h = refl
+node-stays (image address attributes) h = refl
+node-stays (formula tex is_alone attributes) h = refl
+node-stays (embedded id address title attributes anchors) h = refl
+node-stays (anchor id) h = refl
+node-stays (element id r facts attributes content) h =
+    let n = node_of (element id r facts attributes content) in
+    ap (λ b. cond b (record n { whole = title_element name.Summary n }) n) h
+
+nodes-stay : (ts : Simples) → are_untitled ts ≡ false → map (as_title name.Summary) (nodes_of ts) ≡ nodes_of ts
+unfolding nodes_of
+nodes-stay none h = refl
+nodes-stay (more t ts) h =
+    let parts = neither (has (is_title_of name.Summary) t) (are_untitled ts) h in
+    ap (λ n. n ∷ map (as_title name.Summary) (nodes_of ts)) (node-stays t parts.0)
+    ∙ ap (λ ns. node_of t ∷ ns) (nodes-stay ts parts.1)
+  where
+    neither : (a b : Bool) → (a || b) ≡ false → (a ≡ false) × (b ≡ false)
+    neither true b h = true-false h
+    neither false b h = (refl, h)
+
+module _ (is_rich : Bool) (n id : ℕ) where
+  details-parts : (attributes : List AttributePair) (content ts : Simples) (d : Blocks) → is_rich ≡ true
+      → are_untitled content ≡ false → is_filled d ≡ true
+      → flow.blocks_of false (parts_of is_rich n content) ≡ d
+      → parts_of is_rich n (more (made id role.Details attributes content) ts)
+      ≡ edge ∷ whole (documents.element name.Details (open_attribute attributes) d) ∷ edge
+      ∷ parts_of is_rich n ts
+  unfolding node_of
+  details-parts attributes content ts no_blocks rich untitled filled e = false-true filled
+  details-parts attributes content ts (block b bs) rich untitled filled e =
+      rw rich
+      (ap (λ ns. apart (element_part name.Details (open_attribute attributes)
+      (flow.blocks_of false (flow_all ns (here true n)))) ++ parts_of true n ts) (nodes-stay content untitled)
+      ∙ ap (λ d. apart (element_part name.Details (open_attribute attributes) d) ++ parts_of true n ts)
+      (ap (λ r. flow.blocks_of false (parts_of r n content)) (sym rich) ∙ e))
+
+  pub details-gives : (attributes : List AttributePair) (content : Simples) (d : Blocks) → is_rich ≡ true
+      → has_no_name attributes ≡ true → are_untitled content ≡ false → is_filled d ≡ true
+      → are_bare content ≡ true → AllSpend (weight_in d) (said_in d) content
+      → flow.blocks_of false (parts_of is_rich n content) ≡ d
+      → GivesBlock is_rich n (made id role.Details attributes content)
+      (documents.element name.Details (open_attribute attributes) d)
+  details-gives attributes content d rich nameless untitled filled bare spent e = record {
+    bare = ap (λ b. b && are_bare content) nameless ∙ bare;
+    spent = spend-element (weight_in d) id role.Details (facts_of content) attributes content refl spent;
+    kind = refl;
+    untitled = refl;
+    gives = λ mode w done h may ts.
+        ap (fed_all w) (details-parts attributes content ts d rich untitled filled e)
+        ∙ ap (λ v. fed_all v (parts_of is_rich n ts))
+        (apart-fed mode w done h (documents.element name.Details (open_attribute attributes) d));
   }
 
 -- ---- lists
@@ -333,7 +424,7 @@ module _ (is_rich : Bool) (n id : ℕ) where
 -- nodes that are the items of a list in so many lists and quotes
 pub record AreItems (is_rich : Bool) (n : ℕ) (is_tight : Bool) (items : Items) (ts : Simples) : Type 0 where
   pub bare : are_bare ts ≡ true
-  pub spent : AllSpend (weight_of_items items) ts
+  pub spent : AllSpend (weight_of_items items) (said_of_items items) ts
   pub gives : flow.items_of (nodes_of ts) (here is_rich n) ≡ made_items is_tight items
   pub first : flow.behind_item (nodes_of ts) (here is_rich n) ≡ []
   pub before : (k : ℕ) → flow.before_items (nodes_of ts) (here is_rich k) ≡ []
@@ -344,7 +435,7 @@ module _ (is_rich : Bool) (n id : ℕ) where
   in_one_item content = parts_of is_rich n content ++ edge ∷ run (line_feed ∷ []) [] false ∷ []
 
   pub more-items : (content ts : Simples) (bs : Blocks) (is_tight : Bool) (rest : Items)
-      → are_bare content ≡ true → AllSpend (weight_in bs) content
+      → are_bare content ≡ true → AllSpend (weight_in bs) (said_in bs) content
       → list_any (has roles.is_paragraph) (list_of content) ≡ (not is_tight && holds_paragraph bs)
       → flow.blocks_of true (in_one_item content) ≡ bs → AreItems is_rich n is_tight rest ts
       → AreItems is_rich n is_tight (item bs rest)
@@ -447,7 +538,8 @@ module _ (is_rich : Bool) (n id : ℕ) where
         (spend-past (weight_of_items items) (text (line_feed ∷ [])) content
         (spend-text (line_feed ∷ [])) all.spent);
     kind = refl;
-    gives = λ mode w done h ts.
+    untitled = refl;
+    gives = λ mode w done h may ts.
         ap (fed_all w) (bullets-parts is_rich n id content ts is_tight items free all made_list)
         ∙ list-fed mode w done (list None is_tight items) (parts_of is_rich n ts) h;
   }
@@ -466,7 +558,8 @@ module _ (is_rich : Bool) (n id : ℕ) where
         (spend-past (weight_of_items items) (text (line_feed ∷ [])) content
         (spend-text (line_feed ∷ [])) all.spent);
     kind = refl;
-    gives = λ mode w done h ts.
+    untitled = refl;
+    gives = λ mode w done h may ts.
         ap (fed_all w) (numbers-parts is_rich n id s attributes content ts is_tight items free all start made_list)
         ∙ list-fed mode w done (list (Some s) is_tight items) (parts_of is_rich n ts) h;
   }
@@ -481,16 +574,15 @@ item-ends v bs done h e =
 
 -- an item of a tight list that is a line
 pub line-item : (is_rich : Bool) (n : ℕ) (content : Simples) (ns : Numbers) (xs : Inlines)
-    → ((w : Writing) → fed_all w (parts_of is_rich n content) ≡ fed_all w (parts_in [] ns xs)) → IsWhole xs
-    → are_normal false [] xs ≡ true → are_held xs ≡ true → is_rising 0 ns xs ≡ true
+    → ((w : Writing) → fed_all w (parts_of is_rich n content) ≡ fed_all w (parts_in [] ns xs))
+    → has_none xs ≡ false → IsLineFed in_item [] ns xs
     → flow.blocks_of true (in_one_item is_rich n 0 content) ≡ block (paragraph xs) no_blocks
-line-item is_rich n content ns xs e ends normal settled rise =
-    let line = line-fed in_item [] ns xs ends normal settled rise in
+line-item is_rich n content ns xs e some line =
     ap blocks_in (fold-append fed (clean in_item []) (parts_of is_rich n content)
     (edge ∷ run (line_feed ∷ []) [] false ∷ [])
     ∙ ap (λ v. fed (fed v edge) (run (line_feed ∷ []) [] false)) (e (clean in_item []) ∙ line.is))
     ∙ (ap (λ u. blocks_in (fed u (run (line_feed ∷ []) [] false)))
-    (line-end in_item xs [] line.inner line.last refl ends.some)
+    (line-end in_item xs [] line.inner line.last refl some)
     ∙ ap blocks_of (all-done in_item (fed (clean in_item (paragraph xs ∷ [])) (run (line_feed ∷ []) [] false))
     (paragraph xs ∷ []) (line-ready in_item (paragraph xs ∷ []) refl)))
 
@@ -515,13 +607,12 @@ line-left-ready (inline x xs) ms false h = record {
 pub pair-item : (is_rich : Bool) (n : ℕ) (us vs ts : Simples) (ns : Numbers) (xs : Inlines) (done : List Block)
     → ((w : Writing) → fed_all w (parts_of is_rich n us)
     ≡ fed_all (fed (fed_all w (parts_of is_rich n vs)) (run (line_feed ∷ []) [] false)) (parts_of is_rich n ts))
-    → ((w : Writing) → fed_all w (parts_of is_rich n vs) ≡ fed_all w (parts_in [] ns xs)) → IsWhole xs
-    → are_normal false [] xs ≡ true → are_held xs ≡ true → is_rising 0 ns xs ≡ true
+    → ((w : Writing) → fed_all w (parts_of is_rich n vs) ≡ fed_all w (parts_in [] ns xs))
+    → has_none xs ≡ false → IsLineFed in_item [] ns xs
     → ((w : Writing) → IsReady in_item w (paragraph xs ∷ [])
     → IsReady in_item (fed_all w (parts_of is_rich n ts)) (paragraph xs ∷ done))
     → flow.blocks_of true (in_one_item is_rich n 0 us) ≡ block (paragraph xs) (blocks_of done)
-pair-item is_rich n us vs ts ns xs done split e ends normal settled rise rest =
-    let line = line-fed in_item [] ns xs ends normal settled rise in
+pair-item is_rich n us vs ts ns xs done split e some line rest =
     let start : Writing = fed (in_line in_item [] xs line.inner line.last no_gap) (run (line_feed ∷ []) [] false) in
     ap blocks_in (fold-append fed (clean in_item []) (parts_of is_rich n us)
     (edge ∷ run (line_feed ∷ []) [] false ∷ [])
@@ -530,7 +621,7 @@ pair-item is_rich n us vs ts ns xs done split e ends normal settled rise rest =
     (e (clean in_item []) ∙ line.is)))
     ∙ item-ends (fed_all start (parts_of is_rich n ts)) (block (paragraph xs) (blocks_of done))
     (paragraph xs ∷ done)
-    (rest start (line-left-ready xs line.inner line.last ends.some)) refl
+    (rest start (line-left-ready xs line.inner line.last some)) refl
 
 -- ---- the page
 

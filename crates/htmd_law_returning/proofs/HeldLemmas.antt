@@ -8,7 +8,7 @@ use Rattle.htmd_document.specs.NormalInlines.{first_passes, last_passes, is_brea
 use Rattle.htmd_shown.specs.Spaces.{is_blank_text}
 use Rattle.htmd_law_returning.specs.WholeLines.{begins_white_text, ends_white_text, begins_white, ends_white}
 use Rattle.htmd_law_returning.specs.WholeLines.{is_same_around, is_apart, is_whole_inside, are_whole_inside, is_whole}
-use Rattle.htmd_law_returning.specs.SettledDocuments.{is_plain_text, is_marked, is_settled_address, is_settled_title}
+use Rattle.htmd_law_returning.specs.SettledDocuments.{is_plain_text, is_settled_address, is_settled_title}
 use Rattle.htmd_law_returning.specs.SettledDocuments.{is_one_line, ends_in_white}
 use Rattle.htmd_law_returning.specs.SettledDocuments.{begins_in_white, is_white_at_break, is_settled_link}
 use Rattle.htmd_law_returning.specs.SettledDocuments.{is_settled_inline, are_settled_inlines, is_settled_line}
@@ -35,8 +35,8 @@ abbrev mutual
   pub is_held : Inline → Bool
   is_held (text s) = is_plain_text s
   is_held (code s) = is_held_code s
-  is_held (formatted f content) = is_marked f && are_black_ended content && are_held content
-  is_held (link a t content) = is_settled_link a t content && are_black_ended content && are_held content
+  is_held (formatted f content) = are_black_ended content && are_held content
+  is_held (link a t content) = is_settled_link a t && are_black_ended content && are_held content
   is_held (image a t d) = is_settled_address a && is_settled_title t && is_one_line d
   is_held line_break = true
   is_held x = false
@@ -163,17 +163,15 @@ mutual
   one-held (formatted f c) h e =
       let parts = and_parts (are_whole_inside c && not (begins_white c)) (not (ends_white c)) h in
       let inner = and_parts (are_whole_inside c) (not (begins_white c)) parts.0 in
-      let own = and_parts (is_marked f) (are_settled_inlines c) e in
-      both-true (is_marked f && are_black_ended c) (are_held c)
-      (both-true (is_marked f) (are_black_ended c) own.0
-      (black-ends c (from-not (begins_white c) inner.1) (from-not (ends_white c) parts.1)))
-      (all-held c inner.0 own.1)
+      both-true (are_black_ended c) (are_held c)
+      (black-ends c (from-not (begins_white c) inner.1) (from-not (ends_white c) parts.1))
+      (all-held c inner.0 e)
   one-held (link a t c) h e =
       let parts = and_parts (are_whole_inside c && not (begins_white c)) (not (ends_white c)) h in
       let inner = and_parts (are_whole_inside c) (not (begins_white c)) parts.0 in
-      let own = and_parts (is_settled_link a t c) (are_settled_inlines c) e in
-      both-true (is_settled_link a t c && are_black_ended c) (are_held c)
-      (both-true (is_settled_link a t c) (are_black_ended c) own.0
+      let own = and_parts (is_settled_link a t) (are_settled_inlines c) e in
+      both-true (is_settled_link a t && are_black_ended c) (are_held c)
+      (both-true (is_settled_link a t) (are_black_ended c) own.0
       (black-ends c (from-not (begins_white c) inner.1) (from-not (ends_white c) parts.1)))
       (all-held c inner.0 own.1)
   one-held (image a t d) h e = e

@@ -1,5 +1,6 @@
 -- The lemmas of the law.
 pub mod StartLemmas
+pub mod StandLemmas
 pub mod HeldLemmas
 pub mod NestLemmas
 pub mod RunLemmas
@@ -8,6 +9,7 @@ pub mod CostLemmas
 pub mod CodeLemmas
 pub mod AddressLemmas
 pub mod NumberLemmas
+pub mod GridLemmas
 pub mod ListLemmas
 pub mod OrderLemmas
 pub mod PageLemmas
@@ -15,19 +17,38 @@ pub mod FlowLemmas
 pub mod TextLemmas
 pub mod LineFormLemmas
 pub mod LineLemmas
+pub mod BoxLemmas
 pub mod LineEndLemmas
+pub mod RawReadings
 pub mod TreesLemmas
+pub mod FormatLemmas
+pub mod BlockTrees
+pub mod ElementTrees
+pub mod OpenLemmas
+pub mod FlatLemmas
 pub mod InlineLemmas
 pub mod PieceLemmas
+pub mod BreakLemmas
+pub mod LineFactLemmas
 pub mod ShownLineLemmas
 pub mod BehindLineLemmas
+pub mod RichCellLemmas
+pub mod RichTableLemmas
+pub mod TableLemmas
+pub mod TableShownLemmas
+pub mod TaskLemmas
 pub mod BlockLemmas
-pub mod ReturnedLemmas
 pub mod PairReadings
 pub mod SeenTrees
 pub mod SeenAgain
 pub mod SeenBlocks
+pub mod SoftLines
 pub mod PlainLines
+pub mod EncodedReadings
+pub mod ChangedLemmas
+pub mod OddTables
+pub mod EncodedForms
+pub mod ReturnedLemmas
 pub mod ComingBackLemmas
 mod Examples
 mod ComingBackExamples

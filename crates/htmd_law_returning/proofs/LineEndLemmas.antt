@@ -2,12 +2,14 @@
 use Rattle.std.proofs.Common.{◌≡◌, ℕ, true, [], ◌∷◌, ◌++◌, refl, ap, ◌∙◌, codes}
 use Rattle.std.proofs.lemmas.Bool.{and_parts}
 use Rattle.htmd_lexical.specs.Characters.{line_feed, space}
-use Rattle.htmd_commonmark_reading.specs.Markup.{Inlines, no_inlines, letter, code, formatted, link, image, line_break}
+use Rattle.htmd_commonmark_reading.specs.Markup.{Inlines, no_inlines, letter, code, formatted, link, image}
+use Rattle.htmd_commonmark_reading.specs.Markup.{line_break}
 use Rattle.htmd_commonmark_reading.specs.Markup.{task, raw, plain_text}
-use Rattle.htmd_law_rendering.specs.SpelledTrees.{SpelledForest, none, more, text, element, spaced, short}
+use Rattle.htmd_law_rendering.specs.SpelledTrees.{SpelledForest, none, more, text, element, lone, section, spaced}
+use Rattle.htmd_law_rendering.specs.SpelledTrees.{short}
 use Rattle.htmd_law_rendering.specs.RenderedTrees.{text_before, format_name, pairs_of_format, pairs_of_image}
 use Rattle.htmd_law_rendering.specs.RenderedTrees.{inlines_trees, pairs_of_link, pairs_of_box, line_end}
-use Rattle.htmd_law_returning.specs.RawReadings.{has_no_raw}
+use Rattle.htmd_law_returning.proofs.RawReadings.{has_no_raw}
 use Rattle.htmd_law_returning.proofs.StartLemmas.{false-true}
 
 -- trees, a line's end in their last text or as a text of its own, and the rest
@@ -16,12 +18,14 @@ ended_before rest none = more (text (line_feed ∷ [])) rest
 ended_before rest (more (text s) none) = more (text (s ++ line_feed ∷ [])) rest
 ended_before rest (more t ts) = more t (ended_before rest ts)
 
-letter-ended : (c : ℕ) (rest ts : SpelledForest)
+pub letter-ended : (c : ℕ) (rest ts : SpelledForest)
     → text_before (c ∷ []) (ended_before rest ts) ≡ ended_before rest (text_before (c ∷ []) ts)
 letter-ended c rest none = refl
 letter-ended c rest (more (text s) none) = refl
 letter-ended c rest (more (text s) (more t ts)) = refl
 letter-ended c rest (more (element form name attributes content) ts) = refl
+letter-ended c rest (more (lone name attributes s) ts) = refl
+letter-ended c rest (more (section rows) ts) = refl
 
 -- what stands behind a line stands behind its trees
 pub inlines-ended : (xs : Inlines) (rest : SpelledForest) → has_no_raw xs ≡ true

@@ -29,7 +29,6 @@ use Rattle.htmd_shown.specs.Spaces.{is_white}
 use Rattle.htmd_law_returning.specs.SettledDocuments.{is_plain_text}
 use Rattle.htmd_law_returning.specs.SettledDocuments.{is_settled_link, is_settled_address}
 use Rattle.htmd_law_returning.specs.SettledDocuments.{is_settled_title}
-use Rattle.htmd_law_returning.specs.SettledDocuments.{is_own_place}
 use Rattle.htmd_law_returning.specs.SettledDocuments.{is_white_at_break}
 use Rattle.htmd_law_returning.specs.SettledDocuments.{begins_in_white}
 use Rattle.htmd_law_returning.specs.SettledDocuments.{ends_in_white}
@@ -275,6 +274,7 @@ pub record IsFormat (b : Bool) (fs : List Format) (f : Format) (c : Inlines) : T
   pub whole : IsWhole c
   pub normal : are_normal b (f ∷ fs) c ≡ true
   pub free : is_barred fs f ≡ false
+  pub titled : has_title f ≡ true
 
 pub format-normal : (b : Bool) (fs : List Format) (f : Format) (c : Inlines) → is_normal b fs (formatted f c) ≡ true
     → are_black_ended c ≡ true → IsFormat b fs f c
@@ -283,17 +283,18 @@ format-normal b fs f c h black =
     (are_normal b (f ∷ fs) c) h in
     let more = and_parts ((not (is_barred fs f) && has_title f) && not (has_none c)) (are_whole c) parts.0 in
     let some = and_parts (not (is_barred fs f) && has_title f) (not (has_none c)) more.0 in
+    let own = and_parts (not (is_barred fs f)) (has_title f) some.0 in
     record {
       whole = whole-inlines c (from-not (has_none c) some.1) black;
       normal = parts.1;
-      free = from-not (is_barred fs f) (and_parts (not (is_barred fs f)) (has_title f) some.0).0;
+      free = from-not (is_barred fs f) own.0;
+      titled = own.1;
     }
 
 -- what is in a link
 pub record IsLink (b : Bool) (fs : List Format) (a : List ℕ) (t : Option (List ℕ)) (c : Inlines) : Type 0 where
   pub outside : b ≡ false
   pub address : is_settled_address a ≡ true
-  pub away : is_own_place a c ≡ false
   pub title : is_title t ≡ true
   pub one_line : is_settled_title t ≡ true
   pub whole : IsWhole c
@@ -306,16 +307,14 @@ link-normal b fs a t c h e =
     let parts = and_parts (((not b && is_attribute a) && is_title t) && not (has_none c)) (are_normal true fs c) h in
     let more = and_parts ((not b && is_attribute a) && is_title t) (not (has_none c)) parts.0 in
     let some = and_parts (not b && is_attribute a) (is_title t) more.0 in
-    let held = and_parts (is_settled_link a t c && are_black_ended c) (are_held c) e in
-    let good = and_parts (is_settled_link a t c) (are_black_ended c) held.0 in
-    let title = and_parts (is_settled_address a && not (is_own_place a c)) (is_settled_title t) good.0 in
-    let address = and_parts (is_settled_address a) (not (is_own_place a c)) title.0 in
+    let held = and_parts (is_settled_link a t && are_black_ended c) (are_held c) e in
+    let good = and_parts (is_settled_link a t) (are_black_ended c) held.0 in
+    let own = and_parts (is_settled_address a) (is_settled_title t) good.0 in
     record {
       outside = from-not b (and_parts (not b) (is_attribute a) some.0).0;
-      address = address.0;
-      away = from-not (is_own_place a c) address.1;
+      address = own.0;
       title = some.1;
-      one_line = title.1;
+      one_line = own.1;
       whole = whole-inlines c (from-not (has_none c) more.1) good.1;
       normal = parts.1;
       settled = held.1;

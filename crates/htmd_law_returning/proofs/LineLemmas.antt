@@ -27,7 +27,6 @@ use Rattle.htmd_flow.specs.Paragraphs.{Writing, after_leaf, fed_all, fed}
 use Rattle.htmd_flow.specs.Parts as part
 use Rattle.htmd_flow.specs.Parts.{Around, Part, run}
 use Rattle.htmd_shown.specs.Spaces.{no_gap, is_white, is_blank_text}
-use Rattle.htmd_law_returning.specs.SettledDocuments.{is_marked}
 use Rattle.htmd_law_returning.specs.SettledDocuments.{is_white_at_break}
 use Rattle.htmd_law_returning.specs.SettledDocuments.{ends_in_white}
 use Rattle.htmd_law_returning.proofs.NestLemmas.{appended, appended-assoc, is_merging, joined-apart, IsHole}
@@ -54,21 +53,25 @@ use Rattle.htmd_law_returning.proofs.HeldLemmas.{is_parted}
 use Rattle.htmd_law_returning.specs.WholeLines.{begins_white_text}
 use Rattle.htmd_law_returning.specs.WholeLines.{is_same_around}
 
--- the numbers of the links in a line, by its structure
+-- the numbers of the links in a line, by its structure, and behind which breaks there is no line's end
 pub data Numbers : Type 0 where
   unknown : Numbers
+  unended : Numbers
   numbered : (id : ℕ) (inside rest : Numbers) → Numbers
 
 abbrev pub own_number : Numbers → ℕ
 own_number unknown = 0
+own_number unended = 0
 own_number (numbered id inside rest) = id
 
 abbrev pub numbers_inside : Numbers → Numbers
 numbers_inside unknown = unknown
+numbers_inside unended = unknown
 numbers_inside (numbered id inside rest) = inside
 
 abbrev pub numbers_after : Numbers → Numbers
 numbers_after unknown = unknown
+numbers_after unended = unknown
 numbers_after (numbered id inside rest) = rest
 
 -- the numbers of what stands in a line rise from this one
@@ -81,6 +84,7 @@ abbrev mutual
   pub is_rising : ℕ → Numbers → Inlines → Bool
   is_rising k ns no_inlines = true
   is_rising k unknown (inline x xs) = false
+  is_rising k unended (inline x xs) = false
   is_rising k (numbered id inside rest) (inline x xs) =
       (nat_le k id && is_rising_in inside x) && is_rising (suc id) rest xs
 
@@ -91,19 +95,29 @@ rise-more k id inside rest x xs h e g =
     ap (λ b. (b && is_rising_in inside x) && is_rising (suc id) rest xs) h
     ∙ (ap (λ b. b && is_rising (suc id) rest xs) e ∙ g)
 
-record IsRising (k : ℕ) (ns : Numbers) (x : Inline) (xs : Inlines) : Type 0 where
-  least : nat_le k (own_number ns) ≡ true
-  inside : is_rising_in (numbers_inside ns) x ≡ true
-  rest : is_rising (suc (own_number ns)) (numbers_after ns) xs ≡ true
-  below : k ≤ suc (own_number ns)
+pub record IsRising (k : ℕ) (ns : Numbers) (x : Inline) (xs : Inlines) : Type 0 where
+  pub least : nat_le k (own_number ns) ≡ true
+  pub inside : is_rising_in (numbers_inside ns) x ≡ true
+  pub rest : is_rising (suc (own_number ns)) (numbers_after ns) xs ≡ true
+  pub below : k ≤ suc (own_number ns)
 
-rising-next : (k : ℕ) (ns : Numbers) (x : Inline) (xs : Inlines) → is_rising k ns (inline x xs) ≡ true
+pub rising-next : (k : ℕ) (ns : Numbers) (x : Inline) (xs : Inlines) → is_rising k ns (inline x xs) ≡ true
     → IsRising k ns x xs
 rising-next k unknown x xs h = false-true h
+rising-next k unended x xs h = false-true h
 rising-next k (numbered id inside rest) x xs h =
     let parts = and_parts (nat_le k id && is_rising_in inside x) (is_rising (suc id) rest xs) h in
     let own = and_parts (nat_le k id) (is_rising_in inside x) parts.0 in
     record { least = own.0; inside = own.1; rest = parts.1; below = grind (arith, nat_tests, own.0) }
+
+abbrev is_ended : Numbers → Bool
+is_ended unended = false
+is_ended ns = true
+
+-- the line's end behind a break
+abbrev end_of_line : Bool → List Around → List Part
+end_of_line false around = []
+end_of_line true around = run (line_feed ∷ []) around false ∷ []
 
 -- what inlines give, in what stands around
 abbrev mutual
@@ -114,8 +128,9 @@ abbrev mutual
       parts_in (around ++ part.formatted f ∷ []) (numbers_inside ns) content
   parts_one around ns (link a t content) =
       parts_in (around ++ part.linked (own_number ns) a t ∷ []) (numbers_inside ns) content
-  parts_one around ns line_break = part.break ∷ run (line_feed ∷ []) around false ∷ []
+  parts_one around ns line_break = part.break ∷ end_of_line (is_ended (numbers_inside ns)) around
   parts_one around ns (image a t d) = part.picture a t d around ∷ []
+  parts_one around ns (task d) = part.box d ∷ []
   parts_one around ns x = []
 
   pub parts_in : List Around → Numbers → Inlines → List Part
@@ -274,6 +289,13 @@ module _ (flat : Mode) (done : List Block) where
       ∙ ap (λ ns. in_line flat done (put (joined xs (wrapped_by a c))) ns k no_gap)
       (append_assoc (map wrapper_of around) (wrapper_of a ∷ []) ms)
 
+  end-fed : (put : Inlines → Inlines) (around : List Around) (hole : IsHole put around) (ended : Bool) (ys : Inlines)
+      (inner : List Wrapper) (k : Bool)
+      → fed_all (fed (after flat done put around hole ys inner k no_gap) part.break) (end_of_line ended around)
+      ≡ past_break flat done put around hole ended ys inner k
+  end-fed put around hole false ys inner k = refl
+  end-fed put around hole true ys inner k = break-fed flat done put around hole ys inner k
+
   -- two texts don't meet
   no-text : (s t : List ℕ) (xs rest : Inlines) → xs ≡ inline (text t) rest → meets (text s) xs ≡ true
       → {A : Type 0} → A
@@ -391,9 +413,8 @@ module _ (flat : Mode) (done : List Block) where
         let normal = normal-one b fs (formatted f c) xs n in
         let order = rising-next from ns (formatted f c) xs rise in
         let own = settled-one (formatted f c) xs settled in
-        let held = and_parts (is_marked f && are_black_ended c) (are_held c) own.own in
-        let marks = and_parts (is_marked f) (are_black_ended c) held.0 in
-        let g : IsFormat b fs f c = format-normal b fs f c normal.own marks.1 in
+        let held = and_parts (are_black_ended c) (are_held c) own.own in
+        let g : IsFormat b fs f c = format-normal b fs f c normal.own held.0 in
         let a : Around = part.formatted f in
         let ys : Inlines = spaced false at.ys at.g in
         let enter : IsEntry (λ x. put (joined ys (wrapped_by a x))) (around ++ a ∷ []) w [] =
@@ -518,13 +539,14 @@ module _ (flat : Mode) (done : List Block) where
         let free : at.g ≡ [] = at.white (at.unbroken xs refl) in
         let front : Inlines = appended init (one_inline z) in
         let before : at.ys ≡ front = ap (spaced false at.ys) (sym free) ∙ at.all in
-        let v : Writing = past_break flat done put around hole at.ys at.inner at.k in
+        let ended : Bool = is_ended (numbers_inside ns) in
+        let v : Writing = past_break flat done put around hole ended at.ys at.inner at.k in
         let here_is : fed_all w (parts_one around ns line_break) ≡ v =
-        ap (λ x. fed (fed x part.break) (run (line_feed ∷ []) around false))
+        ap (λ x. fed_all (fed x part.break) (end_of_line ended around))
         (at.is ∙ ap (λ b. after flat done put around hole at.ys at.inner at.k (gap_of false b)) free)
-        ∙ break-fed flat done put around hole at.ys at.inner at.k in
+        ∙ end-fed put around hole ended at.ys at.inner at.k in
         let enter : IsEntry (λ ys. put (appended (appended front (one_inline line_break)) ys)) around v at.inner =
-        λ more c y h. leaf-past-break flat done put around hole at.ys at.inner at.k c more y h
+        λ more c y h. leaf-past-break flat done put around hole ended at.ys at.inner at.k c more y h
         ∙ ap (λ x. in_line flat done (put x) (map wrapper_of (around ++ more)) c no_gap)
         (ap (λ ys. joined (joined ys line_break) (wrapped more y)) before
         ∙ (ap (λ ys. joined ys (wrapped more y)) (joined-apart init z line_break (apart-break z))
@@ -616,9 +638,8 @@ module _ (flat : Mode) (done : List Block) where
         let normal = normal-one b fs (formatted f c) xs n in
         let order = rising-next from ns (formatted f c) xs rise in
         let own = settled-one (formatted f c) xs settled in
-        let held = and_parts (is_marked f && are_black_ended c) (are_held c) own.own in
-        let marks = and_parts (is_marked f) (are_black_ended c) held.0 in
-        let g : IsFormat b fs f c = format-normal b fs f c normal.own marks.1 in
+        let held = and_parts (are_black_ended c) (are_held c) own.own in
+        let g : IsFormat b fs f c = format-normal b fs f c normal.own held.0 in
         let a : Around = part.formatted f in
         let in_it : IsEntry (λ x. put (joined no_inlines (wrapped_by a x))) (around ++ a ∷ []) w [] =
         around-entry put around a w no_inlines

@@ -96,12 +96,12 @@ joined-some (inline line_break no_inlines) y = refl
 joined-some (inline (task d) no_inlines) y = refl
 joined-some (inline x (inline x' xs)) y = refl
 
-joined-inner : (x : Inline) (xs : Inlines) (y : Inline) → has_none xs ≡ false
+pub joined-inner : (x : Inline) (xs : Inlines) (y : Inline) → has_none xs ≡ false
     → joined (inline x xs) y ≡ inline x (joined xs y)
 joined-inner x no_inlines y h = true-false h
 joined-inner x (inline z xs) y h = refl
 
-in-last-inner : (change : Inlines → Inlines) (x : Inline) (xs : Inlines) → has_none xs ≡ false
+pub in-last-inner : (change : Inlines → Inlines) (x : Inline) (xs : Inlines) → has_none xs ≡ false
     → in_last change (inline x xs) ≡ inline x (in_last change xs)
 in-last-inner change x no_inlines h = true-false h
 in-last-inner change x (inline z xs) h = refl

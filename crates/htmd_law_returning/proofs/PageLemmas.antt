@@ -3,7 +3,7 @@ use Rattle.std.proofs.Common.{◌≡◌, ℕ, zero, suc, Bool, true, false, ◌&
 use Rattle.std.proofs.Common.{ap}
 use Rattle.std.proofs.Common.{◌∙◌, codes}
 use Rattle.std.proofs.Common.{Option, Some, None}
-use Rattle.std.proofs.Common.{arith}
+use Rattle.std.proofs.Common.{arith, subst}
 use Rattle.std.proofs.lemmas.Bool.{and_parts}
 use Rattle.std.proofs.lemmas.Bool.Decides.{nat_tests}
 use Rattle.std.specs.Prelude.{nat_le}
@@ -28,6 +28,7 @@ use Rattle.htmd_document.specs.NormalDocuments.{is_level}
 use Rattle.htmd_law_rendering.specs.RenderedTrees.{heading_name}
 use Rattle.htmd_law_returning.specs.ReturningLaws.{whole_sight}
 use Rattle.htmd_law_returning.proofs.BareLemmas.{followed-none}
+use Rattle.htmd_law_returning.proofs.StandLemmas.{is_break, Behind, Stands, Lacks, beside}
 use Rattle.htmd_law_returning.proofs.StartLemmas.{false-true}
 use Rattle.htmd_law_returning.proofs.OrderLemmas.{is_ordered, is_ordered_tree, ordered-next}
 use lib.Utf8.{encode}
@@ -35,49 +36,49 @@ use lib.Utf8.{encode}
 -- ---- from the trees to those with numbers
 
 -- a forest that is one text and others
-pub record IsText (f : NumberedForest) (s : List ℕ) (ts : ValueForest) : Type 0 where
-  pub id : ℕ
-  pub rest : NumberedForest
-  pub is : f ≡ page.more (page.text id s) rest
-  pub others : value_forest rest ≡ ts
+record TextIs (f : NumberedForest) (s : List ℕ) (ts : ValueForest) : Type 0 where
+  id : ℕ
+  rest : NumberedForest
+  is : f ≡ page.more (page.text id s) rest
+  others : value_forest rest ≡ ts
 
 -- or one element and others
-pub record IsElement (f : NumberedForest) (name : List ℕ) (attributes : List AttributePair) (content ts : ValueForest)
+record ElementIs (f : NumberedForest) (name : List ℕ) (attributes : List AttributePair) (content ts : ValueForest)
     : Type 0 where
-  pub id : ℕ
-  pub inside : NumberedForest
-  pub rest : NumberedForest
-  pub is : f ≡ page.more (page.element id name attributes inside) rest
-  pub within : value_forest inside ≡ content
-  pub others : value_forest rest ≡ ts
+  id : ℕ
+  inside : NumberedForest
+  rest : NumberedForest
+  is : f ≡ page.more (page.element id name attributes inside) rest
+  within : value_forest inside ≡ content
+  others : value_forest rest ≡ ts
 
 pub from-none : (f : NumberedForest) → value_forest f ≡ value.none → f ≡ page.none
 from-none page.none e = refl
 from-none (page.more t f) e = (cc)
 
-pub from-text : (f : NumberedForest) (s : List ℕ) (ts : ValueForest)
-    → value_forest f ≡ value.more (value.text s) ts → IsText f s ts
-from-text page.none s ts e = (cc)
-from-text (page.more (page.document id children) f) s ts e = (cc)
-from-text (page.more (page.doctype id) f) s ts e = (cc)
-from-text (page.more (page.text id u) f) s ts e = record {
+text-is : (f : NumberedForest) (s : List ℕ) (ts : ValueForest)
+    → value_forest f ≡ value.more (value.text s) ts → TextIs f s ts
+text-is page.none s ts e = (cc)
+text-is (page.more (page.document id children) f) s ts e = (cc)
+text-is (page.more (page.doctype id) f) s ts e = (cc)
+text-is (page.more (page.text id u) f) s ts e = record {
   id = id;
   rest = f;
   is = cc;
   others = cc;
 }
-from-text (page.more (page.comment id u) f) s ts e = (cc)
-from-text (page.more (page.element id name attributes children) f) s ts e = (cc)
+text-is (page.more (page.comment id u) f) s ts e = (cc)
+text-is (page.more (page.element id name attributes children) f) s ts e = (cc)
 
-pub from-element : (f : NumberedForest) (name : List ℕ) (attributes : List AttributePair) (content ts : ValueForest)
+element-is : (f : NumberedForest) (name : List ℕ) (attributes : List AttributePair) (content ts : ValueForest)
     → value_forest f ≡ value.more (value.element name attributes content) ts
-    → IsElement f name attributes content ts
-from-element page.none name attributes content ts e = (cc)
-from-element (page.more (page.document id children) f) name attributes content ts e = (cc)
-from-element (page.more (page.doctype id) f) name attributes content ts e = (cc)
-from-element (page.more (page.text id u) f) name attributes content ts e = (cc)
-from-element (page.more (page.comment id u) f) name attributes content ts e = (cc)
-from-element (page.more (page.element id known pairs children) f) name attributes content ts e = record {
+    → ElementIs f name attributes content ts
+element-is page.none name attributes content ts e = (cc)
+element-is (page.more (page.document id children) f) name attributes content ts e = (cc)
+element-is (page.more (page.doctype id) f) name attributes content ts e = (cc)
+element-is (page.more (page.text id u) f) name attributes content ts e = (cc)
+element-is (page.more (page.comment id u) f) name attributes content ts e = (cc)
+element-is (page.more (page.element id known pairs children) f) name attributes content ts e = record {
   id = id;
   inside = children;
   rest = f;
@@ -85,6 +86,91 @@ from-element (page.more (page.element id known pairs children) f) name attribute
   within = cc;
   others = cc;
 }
+
+-- a forest that stands for one text and others
+pub record IsText (f : NumberedForest) (s : List ℕ) (ts : ValueForest) : Type 0 where
+  pub id : ℕ
+  pub rest : NumberedForest
+  pub is : f ≡ page.more (page.text id s) rest
+  pub others : Stands (value_forest rest) ts
+
+-- or for one element and others
+pub record IsElement (f : NumberedForest) (name : List ℕ) (attributes : List AttributePair) (content ts : ValueForest)
+    : Type 0 where
+  pub id : ℕ
+  pub inside : NumberedForest
+  pub rest : NumberedForest
+  pub is : f ≡ page.more (page.element id name attributes inside) rest
+  pub within : Stands (value_forest inside) content
+  pub others : Behind (is_break name) (Stands (value_forest rest) ts) (Lacks (value_forest rest) ts)
+
+pub from-text : (f : NumberedForest) (s : List ℕ) (ts : ValueForest)
+    → Stands (value_forest f) (value.more (value.text s) ts) → IsText f s ts
+from-text f s ts e =
+    let found = text-is f s e.0 e.1 in
+    record {
+      id = found.id;
+      rest = found.rest;
+      is = found.is;
+      others = subst (λ us. Stands us ts) (sym found.others) e.2;
+    }
+
+pub from-element : (f : NumberedForest) (name : List ℕ) (attributes : List AttributePair) (content ts : ValueForest)
+    → Stands (value_forest f) (value.more (value.element name attributes content) ts)
+    → IsElement f name attributes content ts
+from-element f name attributes content ts e =
+    let found = element-is f name attributes e.0 e.1 e.2 in
+    record {
+      id = found.id;
+      inside = found.inside;
+      rest = found.rest;
+      is = found.is;
+      within = subst (λ us. Stands us content) (sym found.within) e.3;
+      others = subst (λ us. Behind (is_break name) (Stands us ts) (Lacks us ts)) (sym found.others) e.4;
+    }
+
+-- ---- an element and the line's end after it
+
+-- a line's end before trees
+abbrev pub line_before : ValueForest → ValueForest
+line_before ts = value.more (value.text (line_feed ∷ [])) ts
+
+pub record IsBlock (f : NumberedForest) (name : List ℕ) (attributes : List AttributePair) (content ts : ValueForest)
+    : Type 0 where
+  pub id : ℕ
+  pub inside : NumberedForest
+  pub line : ℕ
+  pub rest : NumberedForest
+  pub is : f ≡ page.more (page.element id name attributes inside) (page.more (page.text line (line_feed ∷ [])) rest)
+  pub within : Stands (value_forest inside) content
+  pub others : Stands (value_forest rest) ts
+
+pub from-block : (f : NumberedForest) (name : List ℕ) (attributes : List AttributePair) (content ts : ValueForest)
+    → Stands (value_forest f) (value.more (value.element name attributes content) (line_before ts))
+    → is_break name ≡ false → IsBlock f name attributes content ts
+from-block f name attributes content ts e unbroken =
+    let own = from-element f name attributes content (line_before ts) e in
+    let next = from-text own.rest (line_feed ∷ []) ts
+    (beside (is_break name) (value_forest own.rest) (line_before ts) unbroken own.others) in
+    record {
+      id = own.id;
+      inside = own.inside;
+      line = next.id;
+      rest = next.rest;
+      is = own.is ∙ ap (λ g. page.more (page.element own.id name attributes own.inside) g) next.is;
+      within = own.within;
+      others = next.others;
+    }
+
+-- the order in it, and behind it
+pub block-order : (k : ℕ) (f : NumberedForest) (id : ℕ) (name : List ℕ) (attributes : List AttributePair)
+    (inside : NumberedForest) (line : ℕ) (rest : NumberedForest)
+    → f ≡ page.more (page.element id name attributes inside) (page.more (page.text line (line_feed ∷ [])) rest)
+    → is_ordered k f ≡ true → (is_ordered 0 inside ≡ true) × (is_ordered (suc line) rest ≡ true)
+block-order k f id name attributes inside line rest e o =
+    let behind : NumberedForest = page.more (page.text line (line_feed ∷ [])) rest in
+    let own = ordered-next k f (page.element id name attributes inside) behind e o in
+    (own.inside, (ordered-next (suc id) behind (page.text line (line_feed ∷ [])) rest refl own.rest).rest)
 
 -- ---- what shows
 
@@ -203,6 +289,16 @@ module _ (scripting is_rich : Bool) where
       rw (h, e) (ap (λ ts. more (made id role.NumberedList attributes ts) (shown_of (Some attributes) f))
       (plain-content id (shown_of None inside)))
 
+  pub details-shown : (before : Option (List AttributePair)) (id : ℕ) (attributes : List AttributePair)
+      (inside f : NumberedForest) → is_copied before attributes ≡ false
+      → has_class mathjax_words attributes ≡ false
+      → shown_of before (page.more (page.element id (codes "details") attributes inside) f)
+      ≡ more (made id role.Details attributes (shown_of None inside)) (shown_of (Some attributes) f)
+  unfolding shown role_of table_role heading_or_block block_role
+  details-shown before id attributes inside f h e =
+      rw (h, e) (ap (λ ts. more (made id role.Details attributes ts) (shown_of (Some attributes) f))
+      (plain-content id (shown_of None inside)))
+
   pub item-shown : (before : Option (List AttributePair)) (id : ℕ) (inside f : NumberedForest) → IsFresh before
       → shown_of before (page.more (page.element id (codes "li") [] inside) f)
       ≡ more (made id role.Item [] (shown_of None inside)) (shown_of (Some []) f)
@@ -289,10 +385,10 @@ module _ (scripting is_rich : Bool) where
       let content : ValueForest = value.more (value.element (codes "head") [] value.none)
       (value.more (value.element (codes "body") [] trees) value.none) in
       let same : value_forest children ≡ value.more (value.element (codes "html") [] content) value.none = cc in
-      let html = from-element children (codes "html") [] content value.none same in
-      let head = from-element html.inside (codes "head") [] value.none
+      let html = element-is children (codes "html") [] content value.none same in
+      let head = element-is html.inside (codes "head") [] value.none
       (value.more (value.element (codes "body") [] trees) value.none) html.within in
-      let body = from-element head.rest (codes "body") [] trees value.none head.others in
+      let body = element-is head.rest (codes "body") [] trees value.none head.others in
       let at_body = body-is head.rest body.id body.rest body.inside body.is (from-none body.rest body.others) in
       let at_head = head-is html.inside head.id body.id head.inside head.rest body.inside head.is
       (from-none head.inside head.within) at_body in

@@ -6,7 +6,7 @@ use Rattle.htmd_commonmark_reading.specs.Markup.{task, raw, Block, paragraph, he
 use Rattle.htmd_commonmark_reading.specs.Markup.{thematic_break, list, table, html_block, Blocks, no_blocks, block}
 use Rattle.htmd_commonmark_reading.specs.Markup.{Items, no_items, item}
 use Rattle.htmd_commonmark_reading.specs.SeenMarkup.{Role, opens, closes, breaks, stays, role}
-use Rattle.htmd_law_returning.specs.RawReadings.{has_no_raw}
+use Rattle.htmd_law_returning.proofs.RawReadings.{has_no_raw}
 
 abbrev pub is_of_pair : Role → Bool
 is_of_pair (opens t) = true
@@ -43,7 +43,7 @@ abbrev mutual
   block_has_pairs_alone (list start tight items) = items_have_pairs_alone items
   block_has_pairs_alone (table alignments header rows) =
       cells_have_pairs_alone header && rows_have_pairs_alone rows
-  block_has_pairs_alone (html_block s) = false
+  block_has_pairs_alone (html_block s) = true
 
   pub blocks_have_pairs_alone : Blocks → Bool
   blocks_have_pairs_alone no_blocks = true

@@ -1,34 +1,61 @@
 -- The law of settled documents.
 use Rattle.std.proofs.Common.{◌≡◌, ℕ, ◌+◌, ◌≤◌, true, false, ◌&&◌, [], ap, ◌∙◌}
-use Rattle.std.proofs.Common.{arith, None}
-use Rattle.std.proofs.Common.{refl}
-use Rattle.std.specs.Prelude.{nat_le}
+use Rattle.std.proofs.Common.{arith, Bool, Some, None, refl, sym, subst, not, ◌||◌}
+use Rattle.std.proofs.Common.{◌<◌, ◌*◌}
+use Rattle.std.specs.Prelude.{nat_le, nat_lt}
+use Rattle.std.specs.Option.{unwrap_or}
 use Rattle.std.proofs.lemmas.Bool.{and_parts}
 use Rattle.std.proofs.lemmas.Bool.Decides.{nat_tests}
 use Rattle.htmd_grammar.specs.HtmlDocuments.{skeleton}
+use Rattle.htmd_commonmark_reading.specs.Markup.{Blocks}
+use Rattle.htmd_commonmark_reading.specs.SeenMarkup.{seen_blocks, document_blocks}
 use Rattle.htmd_document.specs.DocumentLimits.{most_nested}
-use Rattle.htmd_document.specs.NormalDocuments.{are_normal_blocks, depth_among}
+use Rattle.htmd_document.specs.Documents as documents
+use Rattle.htmd_document.specs.FlatDocuments.{flattened}
+use Rattle.htmd_document.specs.NormalDocuments.{IsNormal}
+use Rattle.htmd_document.specs.NormalDocuments.{is_normal_document, are_normal_blocks, depth_among}
 use Rattle.htmd_flow.specs.Flows as flow
 use Rattle.htmd_nodes.proofs.LayoutLemmas.{document_items-denotes}
 use Rattle.htmd_nodes.specs.Layout.{document_items}
+use Rattle.htmd_nodes.specs.NumberedTrees.{value_forest}
 use Rattle.htmd_shown.specs.declared.role.Role.TheVariants as role
 use Rattle.htmd_shown.specs.SimpleTrees.{Simples, none, more}
 use Rattle.htmd_shown.specs.Facts.{made, facts_of}
 use Rattle.htmd_document_of_tree.specs.TreeDocuments.{document_by, document_of_tree}
 use Rattle.htmd_document_of_tree.specs.Limits.{always_written}
-use Rattle.htmd_law_rendering.specs.SpelledTrees.{value_forest}
-use Rattle.htmd_law_rendering.specs.RenderedTrees.{trees_of}
+use Rattle.htmd_document_of_tree.specs.declared.anchors.Anchors.{Anchors}
+use Rattle.htmd_law_rendering.specs.SpelledTrees.{value_forest as forest_of}
+use Rattle.htmd_law_rendering.specs.RenderedTrees.{encoded_address, trees_of}
 use Rattle.htmd_law_returning.specs.RenderedPages.{page_of}
-use Rattle.htmd_law_returning.specs.ReturningLaws.{SettledReturns}
+use Rattle.htmd_law_returning.proofs.RawReadings.{blocks_have_no_raw}
+use Rattle.htmd_law_returning.specs.PageFormats.{formats_show}
+use Rattle.htmd_law_returning.specs.ReturningLaws.{whole_sight, SettledReturns}
+use Rattle.htmd_law_returning.specs.SettledDocuments.{are_settled, have_bare_headers, is_light, said_in}
 use Rattle.htmd_law_returning.proofs.BareLemmas.{are_bare, bare-stay}
-use Rattle.htmd_law_returning.proofs.TreesLemmas.{trees-from}
+use Rattle.htmd_law_returning.proofs.BlockTrees.{page_blocks, cut_blocks, page-seen, trees_in}
+use Rattle.htmd_law_returning.proofs.ElementTrees.{elements-from}
+use Rattle.htmd_law_returning.proofs.FlatLemmas.{flat-changed, flat-free, flattened-any}
 use Rattle.htmd_law_returning.proofs.BlockLemmas.{AreReturned, list_in, list-in}
+use Rattle.htmd_law_returning.proofs.TaskLemmas.{unboxed, may-always}
 use Rattle.htmd_law_returning.proofs.BlockLemmas as blocks
 use Rattle.htmd_law_returning.proofs.FlowLemmas.{frame-blocks}
 use Rattle.htmd_law_returning.proofs.PageLemmas.{frame, shown_of, framed, fresh-first}
-use Rattle.htmd_law_returning.proofs.CostLemmas.{AllSpend, spend-none, spend-more, spend-element, within-budget}
+use Rattle.htmd_law_returning.proofs.CostLemmas.{AllSpend, spend-none, spend-more, spend-element, spend-within}
+use Rattle.htmd_law_returning.proofs.CostLemmas.{within-budget}
+use Rattle.htmd_shown.specs.Pieces.{greatest_count}
 use Rattle.htmd_law_returning.specs.SettledDocuments.{are_settled_blocks, numbers_fit, weight_in}
-use Rattle.htmd_law_returning.proofs.StartLemmas.{in_blocks}
+use Rattle.htmd_law_returning.specs.EncodedDocuments.{encoded}
+use Rattle.htmd_law_returning.proofs.ChangedLemmas.{formats-same}
+use Rattle.htmd_law_returning.specs.FittedRows.{blocks_have_fitted_rows}
+use Rattle.htmd_law_returning.proofs.ChangedLemmas.{tables-same}
+use Rattle.htmd_law_returning.proofs.OddTables.{have_odd_tables, own_blocks, none-odd, odd-any, bare-any}
+use Rattle.htmd_law_returning.proofs.EncodedForms.{kept_address, kept-same, blocks-kept, encoded-normal, settled-blocks}
+use Rattle.htmd_law_returning.proofs.EncodedReadings.{addressed_blocks, trees-same, no-raw-blocks, document-changed}
+use Rattle.htmd_law_returning.proofs.PlainLines.{blocks-pairs}
+use Rattle.htmd_law_returning.proofs.SeenBlocks.{line_blocks, without-raw}
+use Rattle.htmd_law_returning.proofs.SoftLines.{soft_blocks, blocks-seen, softened-stands}
+use Rattle.htmd_law_returning.proofs.StandLemmas.{Stands}
+use Rattle.htmd_law_returning.proofs.StartLemmas.{in_blocks, begins_boxed}
 use Rattle.htmd_law_returning.proofs.OrderLemmas.{page-ordered}
 
 frame-bare : (html head body : ℕ) (ts : Simples) → are_bare ts ≡ true
@@ -36,8 +63,9 @@ frame-bare : (html head body : ℕ) (ts : Simples) → are_bare ts ≡ true
 frame-bare html head body ts h = ap (λ b. (b && true) && true) h
 
 -- the elements around cost nothing
-frame-spent : (k html head body : ℕ) (ts : Simples) → AllSpend k ts → AllSpend k (frame html head body ts)
-frame-spent k html head body ts h a fits =
+frame-spent : {n : ℕ} → (k html head body : ℕ) (ts : Simples) → AllSpend k n ts
+    → AllSpend k n (frame html head body ts)
+frame-spent {n} k html head body ts h =
     let in_body : Simples = more (made body role.Block [] ts) none in
     let in_html : Simples = more (made head role.Plain [] none) in_body in
     let bodies = spend-more k 0 (made body role.Block [] ts) none
@@ -46,27 +74,83 @@ frame-spent k html head body ts h a fits =
     (spend-element 0 head role.Plain (facts_of none) [] none refl spend-none) bodies in
     let all = spend-more (0 + (k + 0)) 0 (made html role.Block [] in_html) none
     (spend-element (0 + (k + 0)) html role.Block (facts_of in_html) [] in_html refl heads) spend-none in
-    let (m, found) = all a (omega (arith, fits)) in (m, (found.0, omega (arith, found.1)))
+    spend-within ((0 + (k + 0)) + 0) k n (frame html head body ts) (omega arith) (omega arith) all
 
-pub returned : SettledReturns
+-- so is the page of what is read where its trees stand for those of others that are seen as the document
+pub returned-standing : (which : Anchors) (scripting is_rich : Bool) (bs cs : Blocks) (d : documents.Blocks)
+    → Stands (trees_of bs) (trees_of cs) → blocks_have_no_raw cs ≡ true
+    → document_blocks (seen_blocks cs) ≡ Some (flattened d) → IsNormal d → are_settled d ≡ true
+    → formats_show is_rich d ≡ true → (is_rich && have_odd_tables (page_blocks cs)) ≡ false
+    → document_of_tree which (whole_sight scripting is_rich) (page_of bs) ≡ d
 unfolding document_of_tree document_by
-returned which scripting is_rich bs d plain seen normal settled =
-    let good = and_parts (are_normal_blocks false d) (nat_le (depth_among d) most_nested) normal in
-    let ready = and_parts (are_settled_blocks d && numbers_fit 0 d) (nat_le (weight_in d) always_written) settled in
-    let own = and_parts (are_settled_blocks d) (numbers_fit 0 d) ready.0 in
-    let light : weight_in d ≤ always_written = grind (arith, nat_tests, ready.1) in
-    let fits : depth_among d + 0 ≤ most_nested = grind (arith, nat_tests, good.1) in
+returned-standing which scripting is_rich bs cs d stands raw seen normal settled formats plain =
+    let form = and_parts (are_normal_blocks false d) (nat_le (depth_among d) most_nested) normal in
+    let page = elements-from cs d raw (ap (λ o. unwrap_or o (flattened d)) (sym (page-seen cs raw) ∙ seen))
+    (settled-blocks d settled) form.0 in
+    let p : documents.Blocks = page.page in
+    let is : cut_blocks p ≡ d = page.same in
+    let good = and_parts (are_normal_blocks false (cut_blocks p)) (nat_le (depth_among (cut_blocks p)) most_nested)
+    (ap is_normal_document is ∙ normal) in
+    let ready = and_parts (are_settled_blocks (cut_blocks p) && numbers_fit 0 (cut_blocks p))
+    (is_light (cut_blocks p)) (ap are_settled is ∙ settled) in
+    let own = and_parts (are_settled_blocks (cut_blocks p)) (numbers_fit 0 (cut_blocks p)) ready.0 in
+    let k : ℕ = weight_in (cut_blocks p) in
+    let said : ℕ = said_in (cut_blocks p) in
+    let cheap = and_parts (nat_lt k greatest_count) (nat_le k (16 * said + always_written)) ready.1 in
+    let light : weight_in (cut_blocks p) < greatest_count = grind (arith, nat_tests, cheap.0) in
+    let paid : weight_in (cut_blocks p) ≤ 16 * said_in (cut_blocks p) + always_written =
+    grind (arith, nat_tests, cheap.1) in
+    let fits : depth_among (cut_blocks p) + 0 ≤ most_nested = grind (arith, nat_tests, good.1) in
     let f =
     framed scripting is_rich (page_of bs) (trees_of bs) (document_items-denotes (skeleton (trees_of bs)))
     (page-ordered (document_items (skeleton (trees_of bs))) 0) in
-    let all : AreReturned scripting is_rich None f.inside 0 d =
-    blocks.returned scripting is_rich d false None f.inside 0 fresh-first
-    (f.within ∙ ap value_forest (trees-from bs d false plain seen own.0 good.0)) own.0 good.0 fits own.1 light 0
+    let body : Stands (value_forest f.inside) (trees_in p) =
+    subst (λ us. Stands us (trees_in p)) (sym f.within)
+    (subst (Stands (trees_of bs)) (ap forest_of page.trees) stands) in
+    let all : AreReturned scripting is_rich None f.inside 0 (cut_blocks p) =
+    blocks.returned scripting is_rich p false None f.inside 0 fresh-first body own.0
+    (ap (formats_show is_rich) is ∙ formats) good.0 fits own.1
+    (ap (λ x. is_rich && x) (sym (flattened-any odd-any p) ∙ ap have_odd_tables page.flat) ∙ plain) light 0
     f.ordered in
     let ts : Simples = shown_of scripting is_rich None f.inside in
     let whole : Simples = frame f.html f.head f.body ts in
     ap (λ us. document_by which is_rich us) f.is
     ∙ (ap (flow.document_of is_rich)
     (bare-stay which is_rich whole (frame-bare f.html f.head f.body ts all.bare)
-    (within-budget (weight_in d) whole light (frame-spent (weight_in d) f.html f.head f.body ts all.spent)))
-    ∙ (frame-blocks is_rich f.html f.head f.body ts (list_in d) (λ w h. all.ready in_blocks w [] h) ∙ list-in d))
+    (within-budget k said whole paid (frame-spent k f.html f.head f.body ts all.spent)))
+    ∙ (frame-blocks is_rich f.html f.head f.body ts (list_in (cut_blocks p)) (λ w h. all.ready in_blocks w [] h
+    (may-always (begins_boxed (cut_blocks p)) in_blocks [] (unboxed (cut_blocks p) good.0)))
+    ∙ (list-in (cut_blocks p) ∙ is)))
+
+-- no table is another on a rich page
+rich-even : (is_rich : Bool) (bs : Blocks) → (not is_rich || blocks_have_fitted_rows bs) ≡ true
+    → (is_rich && have_bare_headers (cut_blocks (own_blocks kept_address bs))) ≡ false
+    → (is_rich && have_odd_tables (own_blocks kept_address bs)) ≡ false
+rich-even true bs h e = none-odd kept_address bs h e
+rich-even false bs h e = refl
+
+-- with tags of breaks as breaks, and its lines as one sees them, what is read has no raw tags; and with its addresses
+-- encoded it has the same trees
+pub returned : SettledReturns
+returned which scripting is_rich bs d images same normal settled unanchored formats tables fitted =
+    let soft : Blocks = soft_blocks bs in
+    let good = settled-blocks (encoded d) settled in
+    let flat : documents.Blocks = flattened d in
+    let seen = without-raw soft flat (ap document_blocks (blocks-seen bs) ∙ same)
+    (blocks-pairs bs flat images same (flat-free d unanchored)) in
+    let lines : Blocks = line_blocks soft in
+    let cs : Blocks = addressed_blocks kept_address lines in
+    let is_seen : document_blocks (seen_blocks cs) ≡ Some (flattened (encoded d)) =
+    document-changed kept_address lines flat seen.none_raw seen.seen
+    ∙ ap Some (flat-changed kept_address d ∙ ap flattened (blocks-kept d good)) in
+    let none_raw : blocks_have_no_raw cs ≡ true = no-raw-blocks kept_address lines ∙ seen.none_raw in
+    let is : cut_blocks (page_blocks cs) ≡ flattened (encoded d) =
+    ap (λ o. unwrap_or o (flattened (encoded d))) (sym (page-seen cs none_raw) ∙ is_seen) in
+    returned-standing which scripting is_rich bs cs (encoded d)
+    (subst (Stands (trees_of bs)) (ap forest_of (sym seen.trees ∙ sym (trees-same kept_address kept-same lines)))
+    (softened-stands bs))
+    none_raw is_seen
+    (encoded-normal d normal good) settled (formats-same encoded_address is_rich d ∙ formats)
+    (rich-even is_rich bs fitted
+    (ap (λ x. is_rich && have_bare_headers x) is ∙ (ap (λ x. is_rich && x)
+    (flattened-any bare-any (encoded d) ∙ tables-same encoded_address d) ∙ tables)))

@@ -304,27 +304,30 @@ module _ (flat : Mode) (done : List Block) (put : Inlines → Inlines) (around :
 
   -- ---- breaks
 
-  -- after a break, and the line's end that a page has there
-  abbrev pub past_break : Inlines → List Wrapper → Bool → Writing
-  past_break xs inner k =
-      record (after xs inner k (record { white = space ∷ []; has_break = true; is_code = false })) { breaks = 1 }
+  -- after a break, with the line's end that a page has there or without it
+  abbrev gap_past : Bool → Gap
+  gap_past true = record { white = space ∷ []; has_break = true; is_code = false }
+  gap_past false = record { white = []; has_break = true; is_code = true }
+
+  abbrev pub past_break : Bool → Inlines → List Wrapper → Bool → Writing
+  past_break ended xs inner k = record (after xs inner k (gap_past ended)) { breaks = 1 }
 
   pub break-fed : (xs : Inlines) (inner : List Wrapper) (k : Bool)
-      → fed (fed (after xs inner k no_gap) break) (run (line_feed ∷ []) around false) ≡ past_break xs inner k
+      → fed (fed (after xs inner k no_gap) break) (run (line_feed ∷ []) around false) ≡ past_break true xs inner k
   unfolding chars encode
   break-fed xs inner k = refl
 
-  pub leaf-past-break : (xs : Inlines) (inner : List Wrapper) (k c : Bool) (more : List Around) (y : Inline)
+  pub leaf-past-break : (ended : Bool) (xs : Inlines) (inner : List Wrapper) (k c : Bool) (more : List Around)
+      (y : Inline)
       → shared inner (map wrapper_of more) ≡ 0
-      → after_leaf (past_break xs inner k) (around ++ more) c y
+      → after_leaf (past_break ended xs inner k) (around ++ more) c y
       ≡ in_line flat done (put (joined (joined xs line_break) (wrapped more y))) (map wrapper_of (around ++ more)) c
       no_gap
-  leaf-past-break xs inner k c more y h =
-      let w : Writing = past_break xs inner k in
+  leaf-past-break ended xs inner k c more y h =
       let e : shared (map wrapper_of around ++ inner) (map wrapper_of (around ++ more)) ≡ deep around 0 =
       ap (shared (map wrapper_of around ++ inner)) (map-both around more)
       ∙ (shared-deep around inner (map wrapper_of more) ∙ ap (deep around) h) in
-      whole flat k
+      whole ended flat k
       ∙ ap (λ x. in_line flat done x (map wrapper_of (around ++ more)) c no_gap)
       (ap (λ n. behind n (behind n (put xs) (take n (around ++ more)) line_break) (around ++ more) y) e
       ∙ (ap (λ all. behind (deep around 0) (behind (deep around 0) (put xs) all line_break) (around ++ more) y)
@@ -332,9 +335,9 @@ module _ (flat : Mode) (done : List Block) (put : Inlines → Inlines) (around :
       ∙ (ap (λ x. behind (deep around 0) x (around ++ more) y) (hole-here xs line_break)
       ∙ hole 0 (joined xs line_break) more y)))
     where
-      whole : (flat' : Mode) (k' : Bool)
+      whole : (ended' : Bool) (flat' : Mode) (k' : Bool)
           → after_leaf (record (in_line flat' done (put xs) (map wrapper_of around ++ inner) k'
-          (record { white = space ∷ []; has_break = true; is_code = false })) { breaks = 1 })
+          (gap_past ended')) { breaks = 1 })
           (around ++ more) c y
           ≡ in_line flat' done
           (behind (shared (map wrapper_of around ++ inner) (map wrapper_of (around ++ more)))
@@ -343,12 +346,18 @@ module _ (flat : Mode) (done : List Block) (put : Inlines → Inlines) (around :
           (around ++ more)) line_break)
           (around ++ more) y)
           (map wrapper_of (around ++ more)) c no_gap
-      whole in_blocks true = refl
-      whole in_blocks false = refl
-      whole in_item true = refl
-      whole in_item false = refl
-      whole one_line true = refl
-      whole one_line false = refl
+      whole true in_blocks true = refl
+      whole true in_blocks false = refl
+      whole true in_item true = refl
+      whole true in_item false = refl
+      whole true one_line true = refl
+      whole true one_line false = refl
+      whole false in_blocks true = refl
+      whole false in_blocks false = refl
+      whole false in_item true = refl
+      whole false in_item false = refl
+      whole false one_line true = refl
+      whole false one_line false = refl
 
   -- ---- text
 

@@ -12,7 +12,7 @@ use Rattle.htmd_commonmark_reading.specs.SeenMarkup.{breaks, stays, role, Tags, 
 use Rattle.htmd_commonmark_reading.specs.SeenMarkup.{is_text_alone, paired, closed_tag, with_raw, seen, seen_inlines}
 use Rattle.htmd_law_rendering.proofs.PairedLemmas.{is_anchor, is_end, left, total, AreFormats, joined-nil, seen-formats}
 use Rattle.htmd_law_rendering.proofs.PairedLemmas.{closed-formats, opening-is, anchor-stays, end-stays}
-use Rattle.htmd_law_returning.specs.RawReadings.{has_no_raw}
+use Rattle.htmd_law_returning.proofs.RawReadings.{has_no_raw}
 use Rattle.htmd_law_returning.proofs.PairReadings.{is_of_pair, has_pairs_alone}
 use Rattle.htmd_law_returning.proofs.SeenTrees.{first-anchor}
 use Rattle.htmd_law_returning.proofs.TreesLemmas.{one-seen, plain-letters}

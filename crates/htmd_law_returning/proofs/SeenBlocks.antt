@@ -20,12 +20,14 @@ use Rattle.htmd_law_rendering.specs.RenderedTrees.{element_before, line_end, inl
 use Rattle.htmd_law_rendering.specs.RenderedTrees.{cells_trees, lines_before, row_trees, rows_trees, body_trees}
 use Rattle.htmd_law_rendering.specs.RenderedTrees.{table_trees, heading_name, list_name, pairs_of_start}
 use Rattle.htmd_law_rendering.specs.RenderedTrees.{paragraph_trees}
-use Rattle.htmd_law_rendering.specs.RenderedTrees.{begun_line, block_trees, blocks_trees, items_trees, spelled_of}
+use Rattle.htmd_law_rendering.specs.RenderedTrees.{begun_line, block_trees, blocks_trees, items_trees, spelled_of, Open}
+use Rattle.htmd_law_rendering.specs.RenderedTrees.{onto, with_html}
+use Rattle.htmd_law_rendering.specs.RenderedTrees.{blocks_open}
 use Rattle.htmd_law_rendering.specs.SpelledTrees.{SpelledForest, none}
 use Rattle.htmd_law_rendering.proofs.PairedLemmas.{total, nothing-left}
 use Rattle.htmd_law_rendering.proofs.PairedBlocks.{both-some, one-some, two-some, no-cells}
-use Rattle.htmd_law_returning.specs.RawReadings.{has_no_raw, cells_have_no_raw, rows_have_no_raw, block_has_no_raw}
-use Rattle.htmd_law_returning.specs.RawReadings.{blocks_have_no_raw, items_have_no_raw}
+use Rattle.htmd_law_returning.proofs.RawReadings.{has_no_raw, cells_have_no_raw, rows_have_no_raw, block_has_no_raw}
+use Rattle.htmd_law_returning.proofs.RawReadings.{blocks_have_no_raw, items_have_no_raw}
 use Rattle.htmd_law_returning.proofs.PairReadings.{has_pairs_alone, cells_have_pairs_alone, rows_have_pairs_alone}
 use Rattle.htmd_law_returning.proofs.PairReadings.{block_has_pairs_alone, blocks_have_pairs_alone}
 use Rattle.htmd_law_returning.proofs.PairReadings.{items_have_pairs_alone}
@@ -34,7 +36,7 @@ use Rattle.htmd_law_returning.proofs.SeenAgain.{seen-again}
 
 -- ---- lines as they are seen; rows keep their empty cells
 
-abbrev line_rows : List (List Inlines) → List (List Inlines)
+abbrev pub line_rows : List (List Inlines) → List (List Inlines)
 line_rows [] = []
 line_rows (r ∷ rs) = seen_row r ∷ line_rows rs
 
@@ -245,6 +247,16 @@ paragraph-same true xs rest p h = seen-trees xs rest p h
 paragraph-same false xs rest p h =
     ap (λ ts. element_before (codes "p") [] ts (line_end rest)) (seen-trees xs none p h)
 
+html-same : (b : Block) (o : Open) → with_html (line_block b) o ≡ with_html b o
+html-same (paragraph xs) o = refl
+html-same (heading level xs) o = refl
+html-same (code_block language s) o = refl
+html-same (quote bs) o = refl
+html-same thematic_break o = refl
+html-same (list start tight items) o = refl
+html-same (table alignments header rows) o = refl
+html-same (html_block s) o = refl
+
 mutual
   block-same : (is_tight : Bool) (b : Block) (rest : SpelledForest) → BlockLeft b → block_has_pairs_alone b ≡ true
       → block_trees is_tight (line_block b) rest ≡ block_trees is_tight b rest
@@ -253,7 +265,7 @@ mutual
       ap (λ ts. element_before (heading_name level) [] ts (line_end rest)) (seen-trees xs none p h)
   block-same is_tight (code_block language s) rest h p = refl
   block-same is_tight (quote bs) rest h p =
-      ap (λ ts. lines_before (codes "blockquote") [] ts rest) (blocks-same false false bs h p)
+      ap (λ o. lines_before (codes "blockquote") [] o.first rest) (open-same false false bs h p)
   block-same is_tight thematic_break rest h p = refl
   block-same is_tight (list start tight items) rest h p =
       ap (λ ts. lines_before (list_name start) (pairs_of_start start) ts rest) (items-same tight items h p)
@@ -262,26 +274,28 @@ mutual
       table-same alignments header rows rest h.0 h.1 q.0 q.1
   block-same is_tight (html_block s) rest h p = refl
 
-  blocks-same : (is_tight is_in_line : Bool) (bs : Blocks) → BlocksLeft bs → blocks_have_pairs_alone bs ≡ true
-      → blocks_trees is_tight is_in_line (line_blocks bs) ≡ blocks_trees is_tight is_in_line bs
-  blocks-same is_tight is_in_line no_blocks h p = refl
-  blocks-same is_tight is_in_line (block b bs) h p =
+  open-same : (is_tight is_in_line : Bool) (bs : Blocks) → BlocksLeft bs → blocks_have_pairs_alone bs ≡ true
+      → blocks_open is_tight is_in_line (line_blocks bs) ≡ blocks_open is_tight is_in_line bs
+  open-same is_tight is_in_line no_blocks h p = refl
+  open-same is_tight is_in_line (block b bs) h p =
       let q = and_parts (block_has_pairs_alone b) (blocks_have_pairs_alone bs) p in
       let bare = is_bare is_tight b in
-      ap (λ x. begun_line is_in_line x (block_trees is_tight (line_block b)
-      (blocks_trees is_tight x (line_blocks bs))))
+      let o = with_html b (blocks_open is_tight bare bs) in
+      ap (λ x. onto (λ ts. begun_line is_in_line x (block_trees is_tight (line_block b) ts))
+      (with_html (line_block b) (blocks_open is_tight x (line_blocks bs))))
       (bare-same is_tight b)
-      ∙ (ap (λ ts. begun_line is_in_line bare (block_trees is_tight (line_block b) ts))
-      (blocks-same is_tight bare bs h.1 q.1)
-      ∙ ap (begun_line is_in_line bare) (block-same is_tight b (blocks_trees is_tight bare bs) h.0 q.0))
+      ∙ (ap (λ x. onto (λ ts. begun_line is_in_line bare (block_trees is_tight (line_block b) ts)) x)
+      (html-same b (blocks_open is_tight bare (line_blocks bs))
+      ∙ ap (with_html b) (open-same is_tight bare bs h.1 q.1))
+      ∙ ap (λ ts. record o { first = begun_line is_in_line bare ts }) (block-same is_tight b o.first h.0 q.0))
 
   items-same : (is_tight : Bool) (items : Items) → ItemsLeft items → items_have_pairs_alone items ≡ true
       → items_trees is_tight (line_items items) ≡ items_trees is_tight items
   items-same is_tight no_items h p = refl
   items-same is_tight (item bs rest) h p =
       let q = and_parts (blocks_have_pairs_alone bs) (items_have_pairs_alone rest) p in
-      ap (λ ts. element_before (codes "li") [] ts (line_end (items_trees is_tight (line_items rest))))
-      (blocks-same is_tight true bs h.0 q.0)
+      ap (λ o. element_before (codes "li") [] o.first (line_end (items_trees is_tight (line_items rest))))
+      (open-same is_tight true bs h.0 q.0)
       ∙ ap (λ ts. element_before (codes "li") [] (blocks_trees is_tight true bs) (line_end ts))
       (items-same is_tight rest h.1 q.1)
 
@@ -301,7 +315,7 @@ mutual
         and_from (cells_have_no_raw (seen_row header)) (rows_have_no_raw (line_rows rows)) i.0 j.0,
         ap (λ x. table alignments x (seen_rows (line_rows rows))) i.1 ∙ ap (table alignments (seen_row header)) j.1,
       )
-  block-again (html_block s) h p = absurd (cc)
+  block-again (html_block s) h p = (refl, refl)
 
   blocks-again : (bs : Blocks) → BlocksLeft bs → blocks_have_pairs_alone bs ≡ true
       → (blocks_have_no_raw (line_blocks bs) ≡ true) × (seen_blocks (line_blocks bs) ≡ seen_blocks bs)
@@ -337,7 +351,7 @@ without-raw bs d e p =
     let h = blocks-left bs d e in
     let i = blocks-again bs h p in
     record {
-      trees = blocks-same false false bs h p;
+      trees = ap (λ o. o.first) (open-same false false bs h p);
       seen = ap document_blocks i.1 ∙ e;
       none_raw = i.0;
     }

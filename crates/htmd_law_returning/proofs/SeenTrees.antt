@@ -28,7 +28,7 @@ use Rattle.htmd_law_rendering.proofs.PairedLemmas.{is_anchor, is_end, pending, l
 use Rattle.htmd_law_rendering.proofs.PairedLemmas.{AreFormats, Goes, Ends, joined-nil, stray, seen-formats, seen-left}
 use Rattle.htmd_law_rendering.proofs.PairedLemmas.{before, lost, closed-formats, pair-none, opening-is, anchor-stays}
 use Rattle.htmd_law_rendering.proofs.PairedLemmas.{end-stays, tag-of-anchor, tag-of-end, tag-of-role, closes-so, pairs}
-use Rattle.htmd_law_returning.specs.RawReadings.{has_no_raw}
+use Rattle.htmd_law_returning.proofs.RawReadings.{has_no_raw}
 use Rattle.htmd_law_returning.proofs.PairReadings.{is_of_pair, has_pairs_alone}
 use Rattle.htmd_law_returning.proofs.TreesLemmas.{description-seen}
 

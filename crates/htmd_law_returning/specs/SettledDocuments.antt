@@ -1,27 +1,37 @@
 -- What a page has as well: what is normal, and comes back from its page. So far paragraphs, headings, code blocks,
--- thematic breaks, quotes and lists, with texts, codes, links, images, breaks and formats that Markdown has marks for.
-use Rattle.std.specs.Prelude.{ℕ, suc, ◌+◌, ◌*◌, Bool, true, false, not, ◌&&◌, ◌||◌, nat_le}
-use Rattle.std.specs.Prelude.{List, []}
+-- thematic breaks, quotes, lists, tables and `details`, with texts, codes, links, images, breaks, formats and tasks.
+use Rattle.std.specs.Prelude.{ℕ, suc, ◌+◌, ◌*◌, ◌==◌, Bool, true, false, not, ◌&&◌, ◌||◌, nat_le, nat_lt}
+use Rattle.std.specs.Prelude.{if◌then◌else◌, List, [], ◌∷◌, length}
 use Rattle.std.specs.Prelude.{Option, Some, None}
 use Rattle.std.specs.Prelude.{◌++◌}
+use Rattle.std.specs.Prelude.{is_some}
 use Rattle.std.specs.Option.{unwrap_or}
-use Rattle.std.specs.List.{list_all}
+use Rattle.std.specs.List.{list_all, list_any}
 use Rattle.std.specs.Str.{chars, is_utf8, bytes_eq}
-use Rattle.htmd_document.specs.Documents.{Inline, text, code, formatted, link, image, line_break}
+use Rattle.htmd_document.specs.Documents.{Inline, text, code, formatted, link, image, line_break, task}
 use Rattle.htmd_document.specs.Documents.{Inlines, no_inlines, inline, Block, paragraph, heading, code_block, quote}
 use Rattle.htmd_document.specs.Documents.{thematic_break, Blocks, no_blocks, block}
-use Rattle.htmd_document.specs.Documents.{list, Items, no_items, item}
-use Rattle.htmd_document.specs.Formats.{Format, Emphasis, Strong, Deleted}
+use Rattle.htmd_document.specs.Documents.{list, Items, no_items, item, table, element, BlockAttribute}
+use Rattle.htmd_document.specs.FlatDocuments.{text_in_line}
+use Rattle.htmd_document.specs.declared.document.AttributeName.{AttributeName}
+use Rattle.htmd_document.specs.declared.document.AttributeName.TheVariants as attribute
+use Rattle.htmd_document.specs.declared.document.BlockElement.{BlockElement}
+use Rattle.htmd_document.specs.declared.document.BlockElement.TheVariants as an
+use Rattle.htmd_lexical.specs.CharacterClasses.{is_empty}
+use Rattle.htmd_document.specs.Formats.{Format, Abbreviation}
 use Rattle.htmd_commonmark_reading.specs.Rendering.{stays_in_address}
 use Rattle.htmd_document_of_tree.specs.Limits.{characters, always_written}
-use Rattle.htmd_document.specs.NormalDocuments.{item_count}
+use Rattle.htmd_document.specs.NormalDocuments.{item_count, ends_filled}
+use Rattle.htmd_document.specs.NormalInlines.{has_none}
 use Rattle.htmd_document.specs.TightItems.{is_tight_item}
 use Rattle.htmd_flow.specs.Languages.{is_name, is_none}
 use Rattle.htmd_flow.specs.Lists.{holds_paragraph, greatest_in}
 use Rattle.htmd_shown.specs.Attributes.{in_line, is_to_part}
 use Rattle.htmd_shown.specs.ShownTexts.{is_shown}
 use Rattle.htmd_shown.specs.Spaces.{is_blank_text}
+use Rattle.htmd_shown.specs.Pieces.{greatest_count}
 use Rattle.htmd_shown.specs.Marks.{is_one, is_usual_sign, letters}
+use Rattle.htmd_law_rendering.specs.PlainReadings.{items_have_no_elements}
 use Rattle.htmd_law_returning.specs.WholeLines.{begins_white_text, ends_white_text, is_whole}
 
 -- a page shows no U+FEFF
@@ -54,12 +64,6 @@ abbrev pub is_settled_title : Option (List ℕ) → Bool
 is_settled_title None = true
 is_settled_title (Some s) = is_one_line s
 
-abbrev pub is_marked : Format → Bool
-is_marked Emphasis = true
-is_marked Strong = true
-is_marked Deleted = true
-is_marked f = false
-
 abbrev mutual
   -- the characters that are seen
   pub letters_of : Inline → List ℕ
@@ -78,18 +82,26 @@ abbrev mutual
 abbrev pub is_own_place : List ℕ → Inlines → Bool
 is_own_place address content = is_to_part address && is_one is_usual_sign (letters_in content)
 
--- a link is none for its own place
-abbrev pub is_settled_link : List ℕ → Option (List ℕ) → Inlines → Bool
-is_settled_link address title content =
-    is_settled_address address && not (is_own_place address content) && is_settled_title title
+abbrev mutual
+  -- no link is for its own place
+  pub is_away : Inline → Bool
+  is_away (formatted f content) = are_away content
+  is_away (link address title content) = not (is_own_place address content) && are_away content
+  is_away x = true
+
+  pub are_away : Inlines → Bool
+  are_away no_inlines = true
+  are_away (inline x rest) = is_away x && are_away rest
+
+abbrev pub is_settled_link : List ℕ → Option (List ℕ) → Bool
+is_settled_link address title = is_settled_address address && is_settled_title title
 
 abbrev mutual
   pub is_settled_inline : Inline → Bool
   is_settled_inline (text s) = is_plain_text s
   is_settled_inline (code s) = is_plain_text s
-  is_settled_inline (formatted f content) = is_marked f && are_settled_inlines content
-  is_settled_inline (link address title content) =
-      is_settled_link address title content && are_settled_inlines content
+  is_settled_inline (formatted f content) = are_settled_inlines content
+  is_settled_inline (link address title content) = is_settled_link address title && are_settled_inlines content
   is_settled_inline (image address title description) =
       is_settled_address address && is_settled_title title && is_one_line description
   is_settled_inline line_break = true
@@ -100,9 +112,18 @@ abbrev mutual
   are_settled_inlines (inline x rest) =
       is_settled_inline x && not (is_white_at_break x rest) && are_settled_inlines rest
 
--- of a paragraph or a heading
+-- of a paragraph, a heading or a cell
 abbrev pub is_settled_line : Inlines → Bool
 is_settled_line xs = is_whole xs && are_settled_inlines xs
+
+-- what stands behind the box of a task and the space that belongs to it
+abbrev pub behind_box : Inlines → Inlines
+behind_box (inline (task is_checked) (inline (text (c ∷ [])) xs)) = xs
+behind_box (inline (task is_checked) (inline (text (c ∷ d ∷ s)) xs)) = inline (text (d ∷ s)) xs
+behind_box xs = xs
+
+abbrev pub is_settled_paragraph : Inlines → Bool
+is_settled_paragraph xs = is_settled_line (behind_box xs)
 
 -- Code shows as a whole, and not as white space alone.
 abbrev pub is_settled_code : List ℕ → Bool
@@ -120,19 +141,60 @@ abbrev pub show_loose : Items → Bool
 show_loose no_items = false
 show_loose (item bs rest) = (holds_paragraph bs || not (is_tight_item bs)) || show_loose rest
 
--- tight lists stay tight
+abbrev pub are_tight_items : Items → Bool
+are_tight_items no_items = true
+are_tight_items (item bs rest) = is_tight_item bs && are_tight_items rest
+
+-- a table stands in no tight list of two items
+abbrev pub stay_tight : Items → Bool
+stay_tight no_items = true
+stay_tight (item bs no_items) = true
+stay_tight (item bs (item cs rest)) = are_tight_items (item bs (item cs rest))
+
 abbrev pub is_right_list : Bool → Items → Bool
-is_right_list is_tight items = is_tight || show_loose items
+is_right_list is_tight items = if is_tight then stay_tight items else show_loose items
+
+-- ---- tables
+
+-- a page has no column in which nothing shows at its end
+abbrev pub shows_last_column : List Inlines → List (List Inlines) → Bool
+shows_last_column header rows = ends_filled header || list_any (λ row. length row == length header) rows
+
+abbrev pub is_settled_table : List Inlines → List (List Inlines) → Bool
+is_settled_table header rows =
+    list_all is_settled_line header && list_all (list_all is_settled_line) rows && shows_last_column header rows
+
+-- ---- elements
+
+abbrev pub is_open : AttributeName → Bool
+is_open attribute.Open = true
+is_open name = false
+
+abbrev pub is_open_at_most : List BlockAttribute → Bool
+is_open_at_most [] = true
+is_open_at_most (a ∷ []) = is_open a.name && is_empty a.value
+is_open_at_most (a ∷ b ∷ rest) = false
+
+-- so far a `details`, open or not, around more than a text
+abbrev pub is_settled_element : BlockElement → List BlockAttribute → Blocks → Bool
+is_settled_element an.Details attributes content = is_open_at_most attributes && not (is_some (text_in_line content))
+is_settled_element name attributes content = false
+
+-- ---- blocks
 
 abbrev mutual
+  -- so far no element stands in a list
   pub is_settled_block : Block → Bool
-  is_settled_block (paragraph content) = is_settled_line content
-  is_settled_block (heading level content) = is_settled_line content
+  is_settled_block (paragraph content) = is_settled_paragraph content
+  is_settled_block (heading level content) = is_settled_line content && are_away content
   is_settled_block (code_block language s) = has_settled_language language && is_settled_code s
   is_settled_block (quote content) = are_settled_blocks content
   is_settled_block thematic_break = true
   is_settled_block (list start is_tight items) =
-      is_right_list is_tight items && are_settled_items items
+      is_right_list is_tight items && are_settled_items items && items_have_no_elements items
+  is_settled_block (table alignments header rows) = is_settled_table header rows
+  is_settled_block (element name attributes content) =
+      is_settled_element name attributes content && are_settled_blocks content
   is_settled_block b = false
 
   pub are_settled_blocks : Blocks → Bool
@@ -145,16 +207,17 @@ abbrev mutual
 
 -- ---- numbers
 
--- of a list in so many lists and quotes
+-- of a list in so many lists and quotes: from 1 on a page numbers whatever comes
 abbrev pub has_fitting_numbers : ℕ → Option ℕ → ℕ → Bool
 has_fitting_numbers nested None count = true
-has_fitting_numbers nested (Some start) count = nat_le (start + count) (greatest_in nested + 1)
+has_fitting_numbers nested (Some start) count = start == 1 || nat_le (start + count) (greatest_in nested + 1)
 
 abbrev mutual
   pub block_numbers_fit : ℕ → Block → Bool
   block_numbers_fit nested (quote content) = numbers_fit (suc nested) content
   block_numbers_fit nested (list start is_tight items) =
       has_fitting_numbers nested start (item_count items) && item_numbers_fit (suc nested) items
+  block_numbers_fit nested (element name attributes content) = numbers_fit nested content
   block_numbers_fit nested b = true
 
   pub numbers_fit : ℕ → Blocks → Bool
@@ -165,7 +228,7 @@ abbrev mutual
   item_numbers_fit nested no_items = true
   item_numbers_fit nested (item bs rest) = numbers_fit nested bs && item_numbers_fit nested rest
 
--- ---- how much links carry
+-- ---- how much links and abbreviations carry
 
 abbrev mutual
   -- how many things stand in an inline
@@ -178,10 +241,15 @@ abbrev mutual
   count_among no_inlines = 0
   count_among (inline x rest) = count_of x + count_among rest
 
+-- what the title of an abbreviation weighs
+abbrev pub title_weight : Format → ℕ
+title_weight (Abbreviation title) = suc (characters title)
+title_weight f = 0
+
 abbrev mutual
-  -- the characters of addresses and titles, and one more, for each thing in their links
+  -- the characters of addresses and titles, and one more, for each thing in their links and abbreviations
   pub weight_of : Inline → ℕ
-  weight_of (formatted f content) = weight_among content
+  weight_of (formatted f content) = title_weight f * count_among content + weight_among content
   weight_of (link address title content) =
       suc (characters address + characters (unwrap_or title [])) * count_among content + weight_among content
   weight_of x = 0
@@ -190,12 +258,29 @@ abbrev mutual
   weight_among no_inlines = 0
   weight_among (inline x rest) = weight_of x + weight_among rest
 
+-- of each cell, together
+abbrev pub over_cells : (Inlines → ℕ) → List Inlines → ℕ
+over_cells measure [] = 0
+over_cells measure (c ∷ cs) = measure c + over_cells measure cs
+
+abbrev pub over_rows : (Inlines → ℕ) → List (List Inlines) → ℕ
+over_rows measure [] = 0
+over_rows measure (r ∷ rs) = over_cells measure r + over_rows measure rs
+
+abbrev pub weight_of_cells : List Inlines → ℕ
+weight_of_cells cells = over_cells weight_among cells
+
+abbrev pub weight_of_rows : List (List Inlines) → ℕ
+weight_of_rows rows = over_rows weight_among rows
+
 abbrev mutual
   pub weight_of_block : Block → ℕ
   weight_of_block (paragraph content) = weight_among content
   weight_of_block (heading level content) = weight_among content
   weight_of_block (quote content) = weight_in content
   weight_of_block (list start is_tight items) = weight_of_items items
+  weight_of_block (table alignments header rows) = weight_of_cells header + weight_of_rows rows
+  weight_of_block (element name attributes content) = weight_in content
   weight_of_block b = 0
 
   pub weight_in : Blocks → ℕ
@@ -206,6 +291,73 @@ abbrev mutual
   weight_of_items no_items = 0
   weight_of_items (item bs rest) = weight_in bs + weight_of_items rest
 
--- Past eight lists and quotes numbers are below 100, and past a budget a page's links are their content.
+-- ---- how much a document says
+
+abbrev mutual
+  -- the characters of texts and codes
+  pub said_of : Inline → ℕ
+  said_of (text s) = characters s
+  said_of (code s) = characters s
+  said_of (formatted f content) = said_among content
+  said_of (link address title content) = said_among content
+  said_of x = 0
+
+  pub said_among : Inlines → ℕ
+  said_among no_inlines = 0
+  said_among (inline x rest) = said_of x + said_among rest
+
+abbrev pub said_of_cells : List Inlines → ℕ
+said_of_cells cells = over_cells said_among cells
+
+abbrev pub said_of_rows : List (List Inlines) → ℕ
+said_of_rows rows = over_rows said_among rows
+
+abbrev mutual
+  pub said_of_block : Block → ℕ
+  said_of_block (paragraph content) = said_among content
+  said_of_block (heading level content) = said_among content
+  said_of_block (code_block language s) = characters s
+  said_of_block (quote content) = said_in content
+  said_of_block (list start is_tight items) = said_of_items items
+  said_of_block (element name attributes content) = said_in content
+  said_of_block (table alignments header rows) = said_of_cells header + said_of_rows rows
+  said_of_block b = 0
+
+  pub said_in : Blocks → ℕ
+  said_in no_blocks = 0
+  said_in (block b bs) = said_of_block b + said_in bs
+
+  pub said_of_items : Items → ℕ
+  said_of_items no_items = 0
+  said_of_items (item bs rest) = said_in bs + said_of_items rest
+
+-- a page's budget pays for its links; what is in one is counted up to a number
+abbrev pub is_light : Blocks → Bool
+is_light d = nat_lt (weight_in d) greatest_count && nat_le (weight_in d) (16 * said_in d + always_written)
+
+-- ---- headers of tables
+
+-- something shows in one: else the table is an element of a rich page
+abbrev pub shows_header : List Inlines → Bool
+shows_header header = list_any (λ cell. not (has_none cell)) header
+
+abbrev mutual
+  pub has_bare_header : Block → Bool
+  has_bare_header (quote content) = have_bare_headers content
+  has_bare_header (list start is_tight items) = items_have_bare_headers items
+  has_bare_header (table alignments header rows) = not (shows_header header)
+  has_bare_header (element name attributes content) = have_bare_headers content
+  has_bare_header b = false
+
+  pub have_bare_headers : Blocks → Bool
+  have_bare_headers no_blocks = false
+  have_bare_headers (block b bs) = has_bare_header b || have_bare_headers bs
+
+  pub items_have_bare_headers : Items → Bool
+  items_have_bare_headers no_items = false
+  items_have_bare_headers (item bs rest) = have_bare_headers bs || items_have_bare_headers rest
+
+-- Past eight lists and quotes numbers from others than 1 on are below 100, and past a budget a page's links are their
+-- content.
 abbrev pub are_settled : Blocks → Bool
-are_settled d = are_settled_blocks d && numbers_fit 0 d && nat_le (weight_in d) always_written
+are_settled d = are_settled_blocks d && numbers_fit 0 d && is_light d

@@ -1,8 +1,9 @@
 //! What is read comes back from its page.
 ghost use Rattle.htmd_law_returning.specs.ReturningLaws.{SettledReturns};
 
-/// The document of the page of what is read is what was read, if that is a normal and settled document without raw
-/// tags.
+/// The document of the page of what is read is what one sees in it, with its addresses encoded, if that is a normal
+/// document without anchors, settled with these, whose formats, elements and tables show, and no raw tag stands in the
+/// description of an image.
 pub fn settled_returns()
     ensures { SettledReturns }
 {}

@@ -1,9 +1,8 @@
 use Rattle.htmd_law_html5.proofs.StrictPages.{pages_agree}
 use Rattle.htmd_law_html5.proofs.StrictImplied.{texts_agree}
 use Rattle.htmd_law_rendering.proofs.DocumentLemmas.{documents-parsed}
-use Rattle.htmd_law_returning.proofs.ReturnedLemmas.{returned}
 use Rattle.htmd_law_returning.proofs.ComingBackLemmas.{come-back}
 use Rattle.htmd_law_returning.proofs.coming_back.settled_come_back.Goals as goal
 
 pub returns : goal.returns
-returns c = come-back (documents-parsed pages_agree texts_agree) returned
+returns c = come-back (documents-parsed pages_agree texts_agree)

@@ -1,4 +1,4 @@
--- What is read without raw HTML.
+-- What is read without raw tags in its lines.
 use Rattle.std.specs.Prelude.{Bool, true, false, ◌&&◌, List, [], ◌∷◌}
 use Rattle.htmd_commonmark_reading.specs.Markup.{Inlines, no_inlines, letter, code, formatted, link, image, line_break}
 use Rattle.htmd_commonmark_reading.specs.Markup.{task, raw, Block, paragraph, heading, code_block, quote}
@@ -34,7 +34,7 @@ abbrev mutual
   block_has_no_raw thematic_break = true
   block_has_no_raw (list start tight items) = items_have_no_raw items
   block_has_no_raw (table alignments header rows) = cells_have_no_raw header && rows_have_no_raw rows
-  block_has_no_raw (html_block s) = false
+  block_has_no_raw (html_block s) = true
 
   pub blocks_have_no_raw : Blocks → Bool
   blocks_have_no_raw no_blocks = true

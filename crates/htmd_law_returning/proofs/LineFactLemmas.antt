@@ -1,0 +1,135 @@
+-- What is known of the nodes of a line: no table and no `pre` is among them, and something shows.
+use Rattle.std.proofs.Common.{◌≡◌, ℕ, ◌+◌, min, Bool, true, false, not, ◌&&◌, ◌||◌, List, [], ◌∷◌, refl, ap, ◌∙◌}
+use Rattle.std.specs.Str.{chars}
+use Rattle.std.proofs.lemmas.Bool.{and_parts}
+use Rattle.std.specs.List.{list_all}
+use Rattle.htmd_lexical.specs.AttributePairs.{AttributePair}
+use Rattle.htmd_lexical.specs.CharacterClasses.{is_empty}
+use Rattle.htmd_document.specs.Documents.{Inline, text, code, formatted, link, image, anchor, line_break, task}
+use Rattle.htmd_document.specs.Documents.{Inlines, no_inlines, inline}
+use Rattle.htmd_document.specs.Formats.{Format, Emphasis, Strong, Deleted, Superscript, Subscript, Inserted, Underlined}
+use Rattle.htmd_document.specs.Formats.{Marked, Small, Keyboard, Abbreviation}
+use Rattle.htmd_document.specs.NormalInlines.{is_text, is_trimmed, is_normal, are_normal, is_break}
+use Rattle.htmd_shown.specs.Facts.{made, pres, pres_among}
+use Rattle.htmd_shown.specs.Kinds.{has_table, have_table}
+use Rattle.htmd_shown.specs.Showings.{shows, show}
+use Rattle.htmd_shown.specs.SimpleTrees.{Simple, Simples, none, more}
+use Rattle.htmd_shown.specs.Spaces.{is_blank_text}
+use Rattle.htmd_shown.specs.declared.role.Role.TheVariants as role
+use Rattle.htmd_shown.specs.Spaces.{is_white}
+use Rattle.htmd_law_returning.specs.SettledDocuments.{is_plain_text, begins_in_white}
+use Rattle.htmd_law_returning.specs.WholeLines.{begins_white_text, ends_white_text}
+use Rattle.htmd_law_returning.proofs.FormatLemmas.{format_role}
+use Rattle.htmd_law_returning.proofs.HeldLemmas.{is_held, are_held, are_black_ended}
+use Rattle.htmd_law_returning.proofs.LineFormLemmas.{IsWhole, IsFormat, format-normal, IsLink, link-normal, normal-one}
+use Rattle.htmd_law_returning.proofs.LineFormLemmas.{settled-one}
+use Rattle.htmd_law_returning.proofs.TextLemmas.{IsLine, text-line}
+use Rattle.htmd_law_returning.proofs.StartLemmas.{false-true, true-false, from-not}
+
+abbrev mutual
+  -- a line begins with what shows
+  pub is_seen : Inline → Bool
+  is_seen (text s) = not (is_blank_text s)
+  is_seen (code s) = not (is_blank_text s)
+  is_seen (formatted f content) = begins_seen content
+  is_seen (link address title content) = begins_seen content
+  is_seen (image address title description) = true
+  is_seen x = false
+
+  pub begins_seen : Inlines → Bool
+  begins_seen no_inlines = false
+  begins_seen (inline x rest) = is_seen x
+
+pub record AreInLine (xs : Inlines) (ts : Simples) : Type 0 where
+  pub tableless : have_table ts ≡ false
+  pub preless : pres_among ts ≡ 0
+  pub shows : begins_seen xs ≡ true → show false ts ≡ true
+
+pub none-in-line : AreInLine no_inlines none
+none-in-line = record { tableless = refl; preless = refl; shows = λ e. false-true e }
+
+pub more-in-line : (x : Inline) (xs : Inlines) (tree : Simple) (ts : Simples)
+    → has_table tree ≡ false → pres tree ≡ 0 → (is_seen x ≡ true → shows false tree ≡ true)
+    → AreInLine xs ts
+    → AreInLine (inline x xs) (more tree ts)
+more-in-line x xs tree ts t p s rest = record {
+  tableless = ap (λ b. b || have_table ts) t ∙ rest.tableless;
+  preless = ap (λ k. min 2 (k + pres_among ts)) p ∙ ap (λ k. min 2 (0 + k)) rest.preless;
+  shows = λ e. ap (λ b. b || show false ts) (s e);
+}
+
+-- behind a break stand nodes with a line's end before them or without
+pub break-in-line : (xs : Inlines) (id : ℕ) (us : Simples) → have_table us ≡ false → pres_among us ≡ 0
+    → AreInLine (inline line_break xs) (more (made id role.LineBreak [] none) us)
+break-in-line xs id us t p = record {
+  tableless = t;
+  preless = ap (λ k. min 2 (0 + k)) p;
+  shows = λ e. false-true e;
+}
+
+pub format-preless : (id : ℕ) (f : Format) (attributes : List AttributePair) (content : Simples)
+    → pres_among content ≡ 0 → pres (made id (format_role f) attributes content) ≡ 0
+format-preless id Emphasis attributes content h = h
+format-preless id Strong attributes content h = h
+format-preless id Deleted attributes content h = h
+format-preless id Superscript attributes content h = h
+format-preless id Subscript attributes content h = h
+format-preless id Inserted attributes content h = h
+format-preless id Underlined attributes content h = h
+format-preless id Marked attributes content h = h
+format-preless id Small attributes content h = h
+format-preless id Keyboard attributes content h = h
+format-preless id (Abbreviation title) attributes content h = h
+
+pub format-seen : (id : ℕ) (f : Format) (attributes : List AttributePair) (content : Simples)
+    → show false content ≡ true → shows false (made id (format_role f) attributes content) ≡ true
+format-seen id Emphasis attributes content h = h
+format-seen id Strong attributes content h = h
+format-seen id Deleted attributes content h = h
+format-seen id Superscript attributes content h = h
+format-seen id Subscript attributes content h = h
+format-seen id Inserted attributes content h = h
+format-seen id Underlined attributes content h = h
+format-seen id Marked attributes content h = h
+format-seen id Small attributes content h = h
+format-seen id Keyboard attributes content h = h
+format-seen id (Abbreviation title) attributes content h = h
+
+-- ---- a settled line begins with what shows
+
+filled-text : (cs : List ℕ) → begins_white_text cs ≡ false → is_empty cs ≡ false
+    → list_all is_white cs ≡ false
+filled-text [] b e = true-false e
+filled-text (c ∷ cs) b e = ap (λ x. x && list_all is_white cs) b
+
+text-seen : (s : List ℕ) → is_plain_text s ≡ true → is_text s ≡ true → begins_white_text (chars s) ≡ false
+    → not (is_blank_text s) ≡ true
+text-seen s p h b = let l : IsLine s = text-line s p h in ap not (filled-text (chars s) b l.some)
+
+mutual
+  pub line-seen : (xs : Inlines) (b : Bool) (fs : List Format) → IsWhole xs → are_normal b fs xs ≡ true
+      → are_held xs ≡ true → begins_seen xs ≡ true
+  line-seen no_inlines b fs whole normal held = true-false whole.some
+  line-seen (inline x xs) b fs whole normal held =
+      one-seen x b fs whole.begins whole.starts (normal-one b fs x xs normal).own (settled-one x xs held).own
+
+  one-seen : (x : Inline) (b : Bool) (fs : List Format) → begins_in_white x ≡ false → is_break x ≡ false
+      → is_normal b fs x ≡ true → is_held x ≡ true → is_seen x ≡ true
+  one-seen (text s) b fs white breaks normal held = text-seen s held normal white
+  one-seen (code s) b fs white breaks normal held =
+      let own = and_parts (is_plain_text s && not (begins_white_text (chars s))) (not (ends_white_text (chars s)))
+      held in
+      let first = and_parts (is_plain_text s) (not (begins_white_text (chars s))) own.0 in
+      text-seen s first.0 (and_parts (is_text s) (is_trimmed s) normal).0
+      (from-not (begins_white_text (chars s)) first.1)
+  one-seen (formatted f c) b fs white breaks normal held =
+      let own = and_parts (are_black_ended c) (are_held c) held in
+      let g : IsFormat b fs f c = format-normal b fs f c normal own.0 in
+      line-seen c b (f ∷ fs) g.whole g.normal own.1
+  one-seen (link a t c) b fs white breaks normal held =
+      let g : IsLink b fs a t c = link-normal b fs a t c normal held in
+      line-seen c true fs g.whole g.normal g.settled
+  one-seen (image a t d) b fs white breaks normal held = refl
+  one-seen (anchor id) b fs white breaks normal held = false-true held
+  one-seen line_break b fs white breaks normal held = true-false breaks
+  one-seen (task d) b fs white breaks normal held = false-true held
