@@ -37,7 +37,7 @@ use Rattle.htmd_law_documents.proofs.NormalTextLemmas.{and-false, true-false, fa
 use Rattle.htmd_law_documents.proofs.NormalLineLemmas.{FitAll}
 use Rattle.htmd_law_documents.proofs.NormalPartsLemmas.{is_text_character, FineFrom, good, waiting, IsRun, fine-from}
 use Rattle.htmd_law_documents.proofs.NormalPartsLemmas.{fine-append, fine-nil, fine-run, shown-run}
-use Rattle.htmd_law_documents.proofs.NormalValueLemmas.{IsClean, text-run, clean-run, seen-trimmed, all-less, AllPieces}
+use Rattle.htmd_law_documents.proofs.NormalValueLemmas.{IsClean, IsBlack, text-run, clean-run, seen-trimmed, all-less, AllPieces}
 use Rattle.htmd_law_documents.proofs.NormalValueLemmas.{pieces-pass, AreTexts, value-text, address-fine, title_of-fine}
 use Rattle.htmd_law_documents.proofs.NormalValueLemmas.{in_line-line, in_line-clean}
 use Rattle.htmd_law_documents.proofs.NormalCodeLemmas.{feeds-clean, code-lines}
@@ -110,12 +110,12 @@ image-shows (Some s) attributes o a e = record {
 }
 image-shows None attributes o a e = record { no_item = refl; shows = described attributes a e }
 
-pub formula-shows-in-line : (tex : List ℕ) (attributes : List AttributePair) → IsClean tex
+pub formula-shows-in-line : (tex : List ℕ) (attributes : List AttributePair) → IsBlack tex
     → ShowsInLine (formula tex false attributes)
 unfolding node_of
-formula-shows-in-line tex attributes h = record { no_item = refl; shows = math-shows tex h }
+formula-shows-in-line tex attributes h = record { no_item = refl; shows = math-shows tex h.0 }
 
-pub formula-shows-apart : (tex : List ℕ) (is_alone : Bool) (attributes : List AttributePair) → IsClean tex
+pub formula-shows-apart : (tex : List ℕ) (is_alone : Bool) (attributes : List AttributePair) → IsBlack tex
     → ShowsApart (formula tex is_alone attributes)
 unfolding node_of
 formula-shows-apart tex is_alone attributes h = record { no_item = refl; shows = at }
@@ -126,7 +126,7 @@ formula-shows-apart tex is_alone attributes h = record { no_item = refl; shows =
         let off : (is_alone && not c.is_flat) ≡ false = and-false is_alone (ap not e) in
         subst (λ (b : Bool). FineFrom true (bound c) waiting (cond b (contexts.apart (whole (math_block tex) ∷ []))
         (math_in_line tex c))) (sym off)
-        (subst (λ (flat : Bool). FineFrom flat (bound c) waiting (math_in_line tex c)) e (math-shows tex h c f))
+        (subst (λ (flat : Bool). FineFrom flat (bound c) waiting (math_in_line tex c)) e (math-shows tex h.0 c f))
 
 -- ---- a code block that shows
 
@@ -348,7 +348,7 @@ led-one (embedded id place title attributes ids) ts h s e = (h, s, e)
 led-one (anchor id) ts h s e = absurd h
 led-one (element id r facts attributes content) ts h s e = (h, s, e)
 
-formula-in-line : (tex : List ℕ) (is_alone : Bool) (attributes : List AttributePair) → IsClean tex
+formula-in-line : (tex : List ℕ) (is_alone : Bool) (attributes : List AttributePair) → IsBlack tex
     → is_alone ≡ false → ShowsInLine (formula tex is_alone attributes)
 formula-in-line tex is_alone attributes h e =
     subst (λ (b : Bool). ShowsInLine (formula tex b attributes)) (sym e) (formula-shows-in-line tex attributes h)

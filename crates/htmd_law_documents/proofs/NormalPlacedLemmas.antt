@@ -29,7 +29,7 @@ use Rattle.htmd_document_of_tree.specs.Targets.{targets_inside, targets_among, i
 use Rattle.htmd_document_of_tree.specs.Targets.{all_targets}
 use Rattle.htmd_law_documents.proofs.NormalTextLemmas.{from-not}
 use Rattle.htmd_law_documents.proofs.NormalLeafLemmas.{IsId, AllIds}
-use Rattle.htmd_law_documents.proofs.NormalValueLemmas.{IsClean, AreTexts, value-text, in_line-id}
+use Rattle.htmd_law_documents.proofs.NormalValueLemmas.{IsClean, IsBlack, AreTexts, value-text, in_line-id}
 use Rattle.htmd_law_documents.proofs.NormalElementLemmas.{IsSource, IsLevel}
 use Rattle.htmd_law_documents.proofs.NormalTreeLemmas.{AreIds}
 use Rattle.htmd_law_documents.proofs.NormalShownLemmas.{IsClear, AreClear}
@@ -181,7 +181,7 @@ abbrev mutual
   pub IsPlaced : Simple → Type 0
   IsPlaced (text s) = IsClean s
   IsPlaced (image o attributes) = IsSource o × AreTexts attributes
-  IsPlaced (formula tex is_alone attributes) = IsClean tex
+  IsPlaced (formula tex is_alone attributes) = IsBlack tex
   IsPlaced (embedded id place title attributes ids) =
       (is_attribute place ≡ true) × IsClean title × (is_blank_text title ≡ false) × AllIds ids
   IsPlaced (anchor id) = ⊥
@@ -292,7 +292,7 @@ image-placed (id ∷ ids) o attributes a h b =
     led-placed (id ∷ ids) (image o attributes) (led-ids (id ∷ ids) (image o attributes) a (h, b, refl))
 
 formula-placed : (ids : List (List ℕ)) (tex : List ℕ) (is_alone : Bool) (attributes : List AttributePair)
-    → AllIds ids → IsClean tex → IsPlaced (after_anchors ids (formula tex is_alone attributes))
+    → AllIds ids → IsBlack tex → IsPlaced (after_anchors ids (formula tex is_alone attributes))
 formula-placed [] tex is_alone attributes a h = h
 formula-placed (id ∷ ids) tex true attributes a h = apart-placed (id ∷ ids) (formula tex true attributes) a h tt
 formula-placed (id ∷ ids) tex false attributes a h =

@@ -53,7 +53,7 @@ use Rattle.htmd_law_documents.proofs.ShownTreeLemmas.{GoodBy, no-by, one-by, eit
 use Rattle.htmd_law_documents.proofs.ShownTreeLemmas.{embedded-by, address-good}
 use Rattle.htmd_law_documents.proofs.NormalTextLemmas.{from-not}
 use Rattle.htmd_law_documents.proofs.NormalLeafLemmas.{AllIds}
-use Rattle.htmd_law_documents.proofs.NormalValueLemmas.{IsClean, shown-clean, in_line-clean, address-fine, utf8-trimmed}
+use Rattle.htmd_law_documents.proofs.NormalValueLemmas.{IsClean, IsBlack, shown-clean, in_line-clean, address-fine, utf8-trimmed}
 use Rattle.htmd_law_documents.proofs.NormalValueLemmas.{AreTexts, texts-of}
 use Rattle.htmd_law_documents.proofs.NormalElementLemmas.{IsSource, IsLevel}
 use Rattle.htmd_law_documents.proofs.NormalSeenElementLemmas.{blank-line}
@@ -65,7 +65,7 @@ abbrev mutual
   pub IsClear : Simple → Type 0
   IsClear (text s) = IsClean s
   IsClear (image o attributes) = IsSource o × AreTexts attributes
-  IsClear (formula tex is_alone attributes) = IsClean tex × AreTexts attributes
+  IsClear (formula tex is_alone attributes) = IsBlack tex × AreTexts attributes
   IsClear (embedded id place title attributes ids) =
       (is_attribute place ≡ true) × IsClean title × (is_blank_text title ≡ false) × AllIds ids
       × AreTexts attributes
@@ -414,7 +414,7 @@ object-clear id attributes content o a h u =
     either-node (are_blank content) (or-node (embed id attributes o) h plain) plain
 
 formula-clear : (name : List ℕ) (attributes : List AttributePair) (other : Option Simple) (o : Option (List ℕ))
-    → AreTexts attributes → GoodBy IsClean o → Clear other → Clear (formula_or name attributes other o)
+    → AreTexts attributes → GoodBy IsBlack o → Clear other → Clear (formula_or name attributes other o)
 formula-clear name attributes other None a g h = h
 formula-clear name attributes other (Some tex) a g h = one-node _ (g.is tex refl, a)
 
@@ -482,7 +482,7 @@ mutual
       either-node (is_skipped sight name) no-node
       (formula-clear name attributes (by_content sight.is_rich around source id name attributes children content)
       (tex_of name attributes children) (texts-of attributes parts.0)
-      (tex-by IsClean shown-clean name attributes children parts.0 parts.1)
+      (tex-by IsBlack (λ s u e. (shown-clean s u, e)) name attributes children parts.0 parts.1)
       (by-content-clear sight.is_rich around source id name attributes children parts.0 parts.1 from content
       (emptied (is_emptied around name attributes) all clear)))
     where

@@ -25,7 +25,7 @@ use Rattle.htmd_law_documents.proofs.NormalLettersLemmas.{characters-append}
 use Rattle.htmd_law_documents.proofs.NormalLeafLemmas.{IsId, AllIds}
 use Rattle.htmd_law_documents.proofs.NormalPartsLemmas.{is_text_character, FineParts, FineFrom, alone, good, waiting}
 use Rattle.htmd_law_documents.proofs.NormalPartsLemmas.{fine-from, fine-append, fine-alone, fine-nil, fine-edges}
-use Rattle.htmd_law_documents.proofs.NormalValueLemmas.{IsClean, clean-nil, shown-clean, AreTexts, value-text}
+use Rattle.htmd_law_documents.proofs.NormalValueLemmas.{IsClean, IsBlack, clean-nil, shown-clean, AreTexts, value-text}
 use Rattle.htmd_law_documents.proofs.NormalValueLemmas.{in_line-clean}
 use Rattle.htmd_law_documents.proofs.NormalNodesLemmas.{bound, FitsIn, GivesFrom, Gives, FineNode}
 use Rattle.htmd_law_documents.proofs.NormalElementLemmas.{IsSource, IsLevel}
@@ -56,7 +56,7 @@ abbrev mutual
   pub IsFine : Simple → Type 0
   IsFine (text s) = IsClean s
   IsFine (image o attributes) = IsSource o × AreTexts attributes
-  IsFine (formula tex is_alone attributes) = IsClean tex
+  IsFine (formula tex is_alone attributes) = IsBlack tex
   IsFine (embedded id address title attributes ids) =
       (is_attribute address ≡ true) × IsClean title × (is_blank_text title ≡ false) × AllIds ids
   IsFine (anchor id) = ⊥
@@ -150,7 +150,7 @@ mutual
   text-fine (text s) h = h
   text-fine (image o attributes) h =
       shown-clean (text_of (codes "alt") attributes) (value-text attributes (codes "alt") h.1)
-  text-fine (formula tex is_alone attributes) h = formula-clean tex h
+  text-fine (formula tex is_alone attributes) h = formula-clean tex h.0
   text-fine (embedded id address title attributes ids) h = h.1
   text-fine (anchor id) h = absurd h
   text-fine (element id r facts attributes content) h =

@@ -143,7 +143,7 @@ mutual
     stands = λ c i f b e. refl;
   }
   node-fine (formula tex is_alone attributes) h u = record {
-    whole = formula-fine tex is_alone h;
+    whole = formula-fine tex is_alone h.0;
     content = λ c f. fine-nil c.is_flat (bound c);
     shown = λ e c i f b. false-true e;
     stands = λ c i f b e. refl;

@@ -11,7 +11,7 @@ use Rattle.std.proofs.lemmas.Str.{scalars-chars, encodes-chars, encode_ascii, ch
 use Rattle.std.proofs.lemmas.List.{append-nil}
 use Rattle.htmd_lexical.specs.Characters.{space}
 use Rattle.htmd_lexical.specs.CharacterClasses.{first_is, is_empty}
-use Rattle.htmd_shown.specs.Spaces.{ends_with_space}
+use Rattle.htmd_shown.specs.Spaces.{ends_with_space, is_blank_text}
 use Rattle.htmd_lexical.specs.AttributePairs.{AttributePair}
 use Rattle.htmd_lexical.specs.WhiteSpace.{is_ascii_white_space}
 use Rattle.htmd_lexical.proofs.Cases.{test}
@@ -107,6 +107,10 @@ pub record IsClean (s : List ℕ) : Type 0 where
   pub seen : list_all is_text_character s ≡ true
   -- each of its characters shows
   pub shown : list_all is_shown (chars s) ≡ true
+
+-- such a text, of which something shows
+abbrev pub IsBlack : List ℕ → Type 0
+IsBlack s = IsClean s × (is_blank_text s ≡ false)
 
 pub clean-nil : IsClean []
 clean-nil = record { utf8 = IsUtf8-nil; seen = refl; shown = ap (list_all is_shown) chars-nil }

@@ -1,5 +1,5 @@
 -- What shows of a page of texts is sound.
-use Rattle.std.proofs.Common.{◌≡◌, ℕ, Bool, true, false, cond, ◌&&◌, ◌||◌, List, [], ◌∷◌, refl, ap}
+use Rattle.std.proofs.Common.{◌≡◌, ℕ, Bool, true, false, cond, ◌&&◌, ◌||◌, List, [], ◌∷◌, refl, sym, ap}
 use Rattle.std.proofs.Common.{Option, Some, None, filter}
 use Rattle.std.specs.Prelude.{codes}
 use Rattle.std.specs.List.{list_all}
@@ -13,6 +13,7 @@ use Rattle.std.specs.List.{prefix_len, suffix_len}
 use Rattle.std.proofs.Common.{length, ◌-◌}
 use Rattle.htmd_lexical.specs.Characters.{quotation_mark}
 use Rattle.htmd_lexical.specs.AttributePairs.{AttributePair}
+use Rattle.htmd_lexical.proofs.Cases.{test}
 use Rattle.htmd_text.specs.Trims.{trimmed_start, trimmed_text}
 use Rattle.htmd_text.proofs.TrimsLemmas.{OfAscii, start_boundary, end_boundary}
 use Rattle.htmd_nodes.specs.NumberedTrees.{NumberedTree, NumberedForest}
@@ -115,12 +116,17 @@ children-good : (attributes : List AttributePair) (children : NumberedForest)
     → (list_all is_text_value attributes && are_text_trees children) ≡ true → are_text_trees children ≡ true
 children-good attributes children e = (both-true (list_all is_text_value attributes) (are_text_trees children) e).1
 
-module _ (P : List ℕ → Type 0) (by : (s : List ℕ) → IsUtf8 s → P (shown_text s)) where
+module _ (P : List ℕ → Type 0)
+    (by : (s : List ℕ) → IsUtf8 s → is_blank_text (shown_text s) ≡ false → P (shown_text s)) where
   abbrev Good : Option (List ℕ) → Type 0
   Good = GoodBy P
 
   shown-if : (s : List ℕ) → IsUtf8 s → Good (text_if_shown s)
-  shown-if s u = either-by P (is_blank_text (shown_text s)) (no-by P) (one-by P (shown_text s) (by s u))
+  shown-if s u =
+      test (is_blank_text (shown_text s))
+      (λ e. subst (λ (b : Bool). Good (cond b None (Some (shown_text s)))) (sym e) (no-by P))
+      (λ e.
+      subst (λ (b : Bool). Good (cond b None (Some (shown_text s)))) (sym e) (one-by P (shown_text s) (by s u e)))
 
   annotated-good : (t : NumberedTree) → is_text_tree t ≡ true → Good (annotated t)
   annotated-good (page.element id name attributes children) e =
@@ -168,7 +174,7 @@ module _ (P : List ℕ → Type 0) (by : (s : List ℕ) → IsUtf8 s → P (show
 pub tex-good : (name : List ℕ) (attributes : List AttributePair) (children : NumberedForest)
     → list_all is_text_value attributes ≡ true → are_text_trees children ≡ true
     → IsGood (tex_of name attributes children)
-tex-good name attributes children g h = tex-by IsUtf8 (λ s u. (shown-shows s u).utf8) name attributes children g h
+tex-good name attributes children g h = tex-by IsUtf8 (λ s u e. (shown-shows s u).utf8) name attributes children g h
 
 -- ---- what is embedded
 

@@ -1,11 +1,12 @@
 -- What is neat, and what isn't.
 use Rattle.std.proofs.Common.{◌≡◌, true, false, [], ◌∷◌, ◌++◌, refl, Some, None}
-use Rattle.std.specs.Prelude.{codes}
+use Rattle.std.specs.Prelude.{codes, ℕ, zero, suc}
 use Rattle.std.specs.Str.{chars, is_utf8}
 use Rattle.htmd_document.specs.Formats.{Strong}
-use Rattle.htmd_document.specs.Documents.{text, code, formatted, image, line_break, no_inlines, inline, paragraph}
-use Rattle.htmd_document.specs.Documents.{no_blocks}
-use Rattle.htmd_document.specs.Documents.{block}
+use Rattle.htmd_document.specs.declared.document.Alignment.TheVariants as align
+use Rattle.htmd_document.specs.Documents.{text, code, formatted, image, line_break, Inlines, no_inlines, inline}
+use Rattle.htmd_document.specs.Documents.{paragraph, Blocks, no_blocks, block, list, Items, no_items, item, table}
+use Rattle.htmd_law_returning.specs.SettledDocuments.{numbers_fit}
 use Rattle.htmd_law_returning.specs.WholeLines.{is_whole}
 use Rattle.htmd_law_settled.specs.BareBreaks.{has_bare_breaks}
 use Rattle.htmd_law_settled.specs.Leaves.{are_blocks_of}
@@ -27,6 +28,12 @@ a_description : are_blocks_of neat (block (paragraph
 unfolding chars encode
 a_description = refl
 
+-- HTML encodes the space
+an_address_with_a_space : are_blocks_of neat (block (paragraph
+    (inline (image (codes "a b") None (codes "c")) no_inlines)) no_blocks) ≡ false
+unfolding chars encode
+an_address_with_a_space = refl
+
 a_description_with_two_spaces : are_blocks_of neat (block (paragraph
     (inline (image (codes "a") None (codes "b  c")) no_inlines)) no_blocks) ≡ false
 unfolding chars encode
@@ -44,7 +51,7 @@ blank_code : is_neat_code None (codes " \n") ≡ false
 unfolding chars encode is_utf8
 blank_code = refl
 
-an_empty_formula : is_neat_code (Some (codes "math")) [] ≡ true
+an_empty_formula : is_neat_code (Some (codes "math")) [] ≡ false
 unfolding chars encode is_utf8
 an_empty_formula = refl
 
@@ -83,3 +90,48 @@ a_space_at_a_break : has_bare_breaks (inline (text (codes "a" ++ 0xC2 ∷ 0xA0 �
     (inline (text (codes "b")) no_inlines))) ≡ false
 unfolding chars encode
 a_space_at_a_break = refl
+
+-- ---- tables
+
+abbrev cell : Inlines
+cell = inline (text (codes "a")) no_inlines
+
+a_table : are_blocks_of neat (block (table (align.Left ∷ align.None ∷ []) (cell ∷ no_inlines ∷ [])
+    ((no_inlines ∷ cell ∷ []) ∷ (cell ∷ []) ∷ [])) no_blocks) ≡ true
+unfolding chars encode
+a_table = refl
+
+-- nothing shows in its last column
+an_empty_column : are_blocks_of neat (block (table (align.Left ∷ align.None ∷ []) (cell ∷ no_inlines ∷ [])
+    ((cell ∷ []) ∷ [])) no_blocks) ≡ false
+unfolding chars encode
+an_empty_column = refl
+
+-- ---- lists
+
+abbrev so_many : ℕ → Blocks → Items
+so_many zero bs = no_items
+so_many (suc n) bs = item bs (so_many n bs)
+
+abbrev a : Blocks
+a = block (paragraph (inline (text (codes "a")) no_inlines)) no_blocks
+
+a_loose_list : are_blocks_of neat (block (list None false (so_many 2 a)) no_blocks) ≡ true
+unfolding chars encode
+a_loose_list = refl
+
+-- with nothing but lists in its items
+a_loose_list_of_lists : are_blocks_of neat (block (list None false
+    (so_many 2 (block (list None true (so_many 2 a)) no_blocks))) no_blocks) ≡ false
+unfolding chars encode
+a_loose_list_of_lists = refl
+
+-- in eight lists and quotes
+numbers_past_99 : numbers_fit 8 (block (list (Some 99) true (so_many 2 a)) no_blocks) ≡ false
+numbers_past_99 = refl
+
+less_deep : numbers_fit 7 (block (list (Some 99) true (so_many 2 a)) no_blocks) ≡ true
+less_deep = refl
+
+from_one_on : numbers_fit 8 (block (list (Some 1) true (so_many 100 a)) no_blocks) ≡ true
+from_one_on = refl

@@ -1,9 +1,9 @@
 -- What is said of leaves by types, said by tests.
-use Rattle.std.proofs.Common.{◌≡◌, ℕ, true, List, [], ◌∷◌, refl, ap, ◌∙◌}
+use Rattle.std.proofs.Common.{◌≡◌, ℕ, suc, Bool, true, false, ◌&&◌, List, [], ◌∷◌, refl, sym, ap, ◌∙◌}
 use Rattle.std.specs.List.{list_all}
 use Rattle.std.specs.Str.{chars}
 use Rattle.std.proofs.Math.Utf8.{scalars, scalar}
-use Rattle.std.proofs.lemmas.Bool.{and_from}
+use Rattle.std.proofs.lemmas.Bool.{and_from, false≢true}
 use Rattle.std.proofs.lemmas.Str.{chars-encodes}
 use Rattle.htmd_document.specs.Documents.{Inline, text, code, formatted, link, image, anchor, line_break, task}
 use Rattle.htmd_document.specs.Documents.{Inlines, no_inlines, inline, Block, paragraph, heading, code_block, quote}
@@ -14,12 +14,28 @@ use Rattle.htmd_law_settled.specs.Leaves.{is_block_of}
 use Rattle.htmd_law_settled.specs.Leaves.{are_blocks_of, are_items_of}
 use Rattle.htmd_law_settled.proofs.LeafLines.{AllCharacters, IsText, HasInline, HasLine, HasWhole, HaveCells, HaveRows}
 use Rattle.htmd_law_settled.proofs.LeafLines.{HasBlock}
+use Rattle.htmd_document.specs.NormalDocuments.{item_count}
+use Rattle.htmd_law_returning.specs.SettledDocuments.{is_right_list, has_fitting_numbers, block_numbers_fit}
+use Rattle.htmd_law_returning.specs.SettledDocuments.{shows_last_column}
+use Rattle.htmd_law_returning.specs.SettledDocuments.{numbers_fit, item_numbers_fit}
 use Rattle.htmd_law_rendering.specs.PlainReadings.{block_has_no_elements, blocks_have_no_elements}
 use Rattle.htmd_law_rendering.specs.PlainReadings.{items_have_no_elements}
 use Rattle.htmd_law_settled.proofs.LineShapes.{Whole}
 use Rattle.htmd_law_settled.proofs.LeafLines.{HaveBlocks, HaveItems}
 
-module _ (k : Leaves) (wholes : (xs : Inlines) → Whole xs → k.line xs ≡ true) where
+-- how lists are tight on a page
+abbrev AllowsRight : Leaves → Type 0
+AllowsRight k = (is_tight : Bool) (items : Items)
+    → (items_have_no_elements items ≡ true → is_right_list is_tight items ≡ true)
+    → k.list is_tight items ≡ true
+
+-- and which columns its tables have
+abbrev AllowsShown : Leaves → Type 0
+AllowsShown k = (header : List Inlines) (rows : List (List Inlines)) → shows_last_column header rows ≡ true
+    → k.table header rows ≡ true
+
+module _ (k : Leaves) (wholes : (xs : Inlines) → Whole xs → k.line xs ≡ true) (rights : AllowsRight k)
+    (shown : AllowsShown k) where
   characters-hold : (cs : List ℕ) → AllCharacters k cs
       → (scalars cs ≡ true) × (list_all k.character cs ≡ true)
   characters-hold [] h = (refl, refl)
@@ -62,49 +78,81 @@ module _ (k : Leaves) (wholes : (xs : Inlines) → Whole xs → k.line xs ≡ tr
       and_from (are_cells_of k r) (list_all (are_cells_of k) rows) (cells-hold r h.0) (rows-hold rows h.1)
 
   mutual
-    block-holds : (b : Block) → HasBlock k b → is_block_of k b ≡ true
-    block-holds (paragraph content) h = whole-holds content h
-    block-holds (heading level content) h = whole-holds content h
-    block-holds (code_block language s) h = h
-    block-holds (quote content) h = blocks-hold content h
-    block-holds thematic_break h = refl
-    block-holds (list start is_tight items) h = items-hold items h
-    block-holds (table alignments header rows) h =
-        and_from (are_cells_of k header) (list_all (are_cells_of k) rows) (cells-hold header h.0) (rows-hold rows h.1)
-    block-holds (element name attributes content) h = absurd h
-    block-holds (tags s) h = absurd h
+    block-holds : (n : ℕ) (b : Block) → HasBlock k n b → is_block_of k b ≡ true
+    block-holds n (paragraph content) h = whole-holds content h
+    block-holds n (heading level content) h = whole-holds content h
+    block-holds n (code_block language s) h = h
+    block-holds n (quote content) h = blocks-hold (suc n) content h
+    block-holds n thematic_break h = refl
+    block-holds n (list start is_tight items) h =
+        and_from (k.list is_tight items) (are_items_of k items) (rights is_tight items h.0.0)
+        (items-hold (suc n) items h.1)
+    block-holds n (table alignments header rows) h =
+        and_from (k.table header rows) (are_cells_of k header && list_all (are_cells_of k) rows)
+        (shown header rows h.2)
+        (and_from (are_cells_of k header) (list_all (are_cells_of k) rows) (cells-hold header h.0)
+        (rows-hold rows h.1))
+    block-holds n (element name attributes content) h =
+        and_from k.elements (are_blocks_of k content) h.0 (blocks-hold n content h.1)
+    block-holds n (tags s) h = absurd h
 
-    pub blocks-hold : (bs : Blocks) → HaveBlocks k bs → are_blocks_of k bs ≡ true
-    blocks-hold no_blocks h = refl
-    blocks-hold (block b bs) h =
-        and_from (is_block_of k b) (are_blocks_of k bs) (block-holds b h.0) (blocks-hold bs h.1)
+    pub blocks-hold : (n : ℕ) (bs : Blocks) → HaveBlocks k n bs → are_blocks_of k bs ≡ true
+    blocks-hold n no_blocks h = refl
+    blocks-hold n (block b bs) h =
+        and_from (is_block_of k b) (are_blocks_of k bs) (block-holds n b h.0) (blocks-hold n bs h.1)
 
-    items-hold : (items : Items) → HaveItems k items → are_items_of k items ≡ true
-    items-hold no_items h = refl
-    items-hold (item bs items) h =
-        and_from (are_blocks_of k bs) (are_items_of k items) (blocks-hold bs h.0) (items-hold items h.1)
+    items-hold : (n : ℕ) (items : Items) → HaveItems k n items → are_items_of k items ≡ true
+    items-hold n no_items h = refl
+    items-hold n (item bs items) h =
+        and_from (are_blocks_of k bs) (are_items_of k items) (blocks-hold n bs h.0) (items-hold n items h.1)
 
--- there is no element
+-- where there are no elements
+module _ (k : Leaves) (plain : k.elements ≡ false) where
+  mutual
+    block-plain : (n : ℕ) (b : Block) → HasBlock k n b → block_has_no_elements b ≡ true
+    block-plain n (paragraph content) h = refl
+    block-plain n (heading level content) h = refl
+    block-plain n (code_block language s) h = refl
+    block-plain n (quote content) h = blocks-plain (suc n) content h
+    block-plain n thematic_break h = refl
+    block-plain n (list start is_tight items) h = items-plain (suc n) items h.1
+    block-plain n (table alignments header rows) h = refl
+    block-plain n (element name attributes content) h = absurd (false≢true (sym plain ∙ h.0))
+    block-plain n (tags s) h = absurd h
+
+    pub blocks-plain : (n : ℕ) (bs : Blocks) → HaveBlocks k n bs → blocks_have_no_elements bs ≡ true
+    blocks-plain n no_blocks h = refl
+    blocks-plain n (block b bs) h =
+        and_from (block_has_no_elements b) (blocks_have_no_elements bs) (block-plain n b h.0) (blocks-plain n bs h.1)
+
+    items-plain : (n : ℕ) (items : Items) → HaveItems k n items → items_have_no_elements items ≡ true
+    items-plain n no_items h = refl
+    items-plain n (item bs items) h =
+        and_from (blocks_have_no_elements bs) (items_have_no_elements items) (blocks-plain n bs h.0)
+        (items-plain n items h.1)
+
+-- the numbers of lists fit
 module _ (k : Leaves) where
   mutual
-    block-plain : (b : Block) → HasBlock k b → block_has_no_elements b ≡ true
-    block-plain (paragraph content) h = refl
-    block-plain (heading level content) h = refl
-    block-plain (code_block language s) h = refl
-    block-plain (quote content) h = blocks-plain content h
-    block-plain thematic_break h = refl
-    block-plain (list start is_tight items) h = items-plain items h
-    block-plain (table alignments header rows) h = refl
-    block-plain (element name attributes content) h = absurd h
-    block-plain (tags s) h = absurd h
+    block-fits : (n : ℕ) (b : Block) → HasBlock k n b → block_numbers_fit n b ≡ true
+    block-fits n (paragraph content) h = refl
+    block-fits n (heading level content) h = refl
+    block-fits n (code_block language s) h = refl
+    block-fits n (quote content) h = blocks-fit (suc n) content h
+    block-fits n thematic_break h = refl
+    block-fits n (list start is_tight items) h =
+        and_from (has_fitting_numbers n start (item_count items)) (item_numbers_fit (suc n) items) h.0.1
+        (items-fit (suc n) items h.1)
+    block-fits n (table alignments header rows) h = refl
+    block-fits n (element name attributes content) h = blocks-fit n content h.1
+    block-fits n (tags s) h = absurd h
 
-    pub blocks-plain : (bs : Blocks) → HaveBlocks k bs → blocks_have_no_elements bs ≡ true
-    blocks-plain no_blocks h = refl
-    blocks-plain (block b bs) h =
-        and_from (block_has_no_elements b) (blocks_have_no_elements bs) (block-plain b h.0) (blocks-plain bs h.1)
+    pub blocks-fit : (n : ℕ) (bs : Blocks) → HaveBlocks k n bs → numbers_fit n bs ≡ true
+    blocks-fit n no_blocks h = refl
+    blocks-fit n (block b bs) h =
+        and_from (block_numbers_fit n b) (numbers_fit n bs) (block-fits n b h.0) (blocks-fit n bs h.1)
 
-    items-plain : (items : Items) → HaveItems k items → items_have_no_elements items ≡ true
-    items-plain no_items h = refl
-    items-plain (item bs items) h =
-        and_from (blocks_have_no_elements bs) (items_have_no_elements items) (blocks-plain bs h.0)
-        (items-plain items h.1)
+    items-fit : (n : ℕ) (items : Items) → HaveItems k n items → item_numbers_fit n items ≡ true
+    items-fit n no_items h = refl
+    items-fit n (item bs items) h =
+        and_from (numbers_fit n bs) (item_numbers_fit n items) (blocks-fit n bs h.0) (items-fit n items h.1)

@@ -1,6 +1,6 @@
 -- Parts whose leaves are of a kind make blocks and lines whose leaves are.
 use Rattle.std.proofs.Common.{◌≡◌, ℕ, zero, suc, Bool, true, false, not, ◌&&◌, List, [], ◌∷◌, ◌++◌, refl, sym, ap}
-use Rattle.std.proofs.Common.{subst, ◌∙◌, map, fold, take, append_assoc}
+use Rattle.std.proofs.Common.{Option, subst, ◌∙◌, map, fold, take, append_assoc}
 use Rattle.std.specs.Prelude.{if◌then◌else◌, encode_utf8, encode_utf8_all, nat_le}
 use Rattle.std.specs.List.{list_all}
 use Rattle.std.specs.Str.{chars, IsUtf8}
@@ -29,6 +29,9 @@ use Rattle.htmd_flow.specs.Parts.{Around, linked, Part, run, picture, break, pla
 use Rattle.htmd_flow.specs.Parts as part
 use Rattle.htmd_shown.specs.Spaces.{Gap, is_white, shown_white, ends_with_space}
 use Rattle.htmd_document.specs.Documents as documents
+use Rattle.htmd_document.specs.NormalDocuments.{item_count}
+use Rattle.htmd_law_rendering.specs.PlainReadings.{items_have_no_elements}
+use Rattle.htmd_law_returning.specs.SettledDocuments.{is_right_list, has_fitting_numbers, shows_last_column}
 use Rattle.htmd_law_settled.specs.Leaves.{Leaves}
 use Rattle.htmd_law_settled.proofs.LineShapes.{Whole}
 use Rattle.htmd_law_settled.proofs.LinePlaces.{Along, IsLeaf, along-before, along-weaker, is_code_inline}
@@ -99,7 +102,7 @@ module _ (k : Leaves) where
   HasWhole xs = HasLine xs × Whole xs
 
   pub nothing-whole : HasWhole no_inlines
-  nothing-whole = (tt, (tt, tt, tt))
+  nothing-whole = (tt, (tt, tt, tt, tt))
 
   abbrev pub HaveCells : List Inlines → Type 0
   HaveCells [] = Unit {0}
@@ -109,26 +112,33 @@ module _ (k : Leaves) where
   HaveRows [] = Unit {0}
   HaveRows (r ∷ rs) = HaveCells r × HaveRows rs
 
+  -- in so many lists and quotes a page shows this list, if no element stands in it
+  abbrev pub IsRightList : ℕ → Option ℕ → Bool → Items → Type 0
+  IsRightList n start is_tight items =
+      (items_have_no_elements items ≡ true → is_right_list is_tight items ≡ true)
+      × (has_fitting_numbers n start (item_count items) ≡ true)
+
   abbrev mutual
-    -- and no element
-    pub HasBlock : Block → Type 0
-    HasBlock (paragraph content) = HasWhole content
-    HasBlock (heading level content) = HasWhole content
-    HasBlock (code_block language s) = k.code language s ≡ true
-    HasBlock (quote content) = HaveBlocks content
-    HasBlock thematic_break = Unit {0}
-    HasBlock (list start is_tight items) = HaveItems items
-    HasBlock (table alignments header rows) = HaveCells header × HaveRows rows
-    HasBlock (element name attributes content) = ⊥
-    HasBlock (tags s) = ⊥
+    -- in so many lists and quotes
+    pub HasBlock : ℕ → Block → Type 0
+    HasBlock n (paragraph content) = HasWhole content
+    HasBlock n (heading level content) = HasWhole content
+    HasBlock n (code_block language s) = k.code language s ≡ true
+    HasBlock n (quote content) = HaveBlocks (suc n) content
+    HasBlock n thematic_break = Unit {0}
+    HasBlock n (list start is_tight items) = IsRightList n start is_tight items × HaveItems (suc n) items
+    HasBlock n (table alignments header rows) =
+        HaveCells header × HaveRows rows × (shows_last_column header rows ≡ true)
+    HasBlock n (element name attributes content) = (k.elements ≡ true) × HaveBlocks n content
+    HasBlock n (tags s) = ⊥
 
-    pub HaveBlocks : Blocks → Type 0
-    HaveBlocks no_blocks = Unit {0}
-    HaveBlocks (block b bs) = HasBlock b × HaveBlocks bs
+    pub HaveBlocks : ℕ → Blocks → Type 0
+    HaveBlocks n no_blocks = Unit {0}
+    HaveBlocks n (block b bs) = HasBlock n b × HaveBlocks n bs
 
-    pub HaveItems : Items → Type 0
-    HaveItems no_items = Unit {0}
-    HaveItems (item bs items) = HaveBlocks bs × HaveItems items
+    pub HaveItems : ℕ → Items → Type 0
+    HaveItems n no_items = Unit {0}
+    HaveItems n (item bs items) = HaveBlocks n bs × HaveItems n items
 
   -- ---- parts
 
@@ -140,19 +150,19 @@ module _ (k : Leaves) where
   AllAround [] = Unit {0}
   AllAround (a ∷ around) = HasAround a × AllAround around
 
-  abbrev pub HasPart : Part → Type 0
-  HasPart (run s around is_code) = AllCharacters (chars s) × AllAround around
-  HasPart (picture address title description around) =
+  abbrev pub HasPart : ℕ → Part → Type 0
+  HasPart n (run s around is_code) = AllCharacters (chars s) × AllAround around
+  HasPart n (picture address title description around) =
       (k.image address title description ≡ true) × AllAround around
-  HasPart break = Unit {0}
-  HasPart (place id) = Unit {0}
-  HasPart (box is_checked) = Unit {0}
-  HasPart edge = Unit {0}
-  HasPart (whole b) = HasBlock b
+  HasPart n break = Unit {0}
+  HasPart n (place id) = Unit {0}
+  HasPart n (box is_checked) = Unit {0}
+  HasPart n edge = Unit {0}
+  HasPart n (whole b) = HasBlock n b
 
-  abbrev pub AllParts : List Part → Type 0
-  AllParts [] = Unit {0}
-  AllParts (p ∷ ps) = HasPart p × AllParts ps
+  abbrev pub AllParts : ℕ → List Part → Type 0
+  AllParts n [] = Unit {0}
+  AllParts n (p ∷ ps) = HasPart n p × AllParts n ps
 
   -- ---- inlines in each other
 
@@ -221,23 +231,24 @@ module _ (k : Leaves) where
 
   -- ---- blocks
 
-  abbrev AllBlocks : List Block → Type 0
-  AllBlocks [] = Unit {0}
-  AllBlocks (b ∷ bs) = HasBlock b × AllBlocks bs
+  abbrev AllBlocks : ℕ → List Block → Type 0
+  AllBlocks n [] = Unit {0}
+  AllBlocks n (b ∷ bs) = HasBlock n b × AllBlocks n bs
 
-  blocks-append : (bs cs : List Block) → AllBlocks bs → AllBlocks cs → AllBlocks (bs ++ cs)
-  blocks-append [] cs g h = h
-  blocks-append (b ∷ bs) cs g h = (g.0, blocks-append bs cs g.1 h)
+  blocks-append : (n : ℕ) (bs cs : List Block) → AllBlocks n bs → AllBlocks n cs → AllBlocks n (bs ++ cs)
+  blocks-append n [] cs g h = h
+  blocks-append n (b ∷ bs) cs g h = (g.0, blocks-append n bs cs g.1 h)
 
-  of-blocks : (bs : List Block) → AllBlocks bs → HaveBlocks (documents.blocks_of bs)
-  of-blocks [] h = tt
-  of-blocks (b ∷ bs) h = (h.0, of-blocks bs h.1)
+  of-blocks : (n : ℕ) (bs : List Block) → AllBlocks n bs → HaveBlocks n (documents.blocks_of bs)
+  of-blocks n [] h = tt
+  of-blocks n (b ∷ bs) h = (h.0, of-blocks n bs h.1)
 
-  paragraph-has : (xs : Inlines) → HasWhole xs → AllBlocks (paragraph_of xs)
-  paragraph-has no_inlines h = tt
-  paragraph-has (inline x xs) h = (h, tt)
+  paragraph-has : (n : ℕ) (xs : Inlines) → HasWhole xs → AllBlocks n (paragraph_of xs)
+  paragraph-has n no_inlines h = tt
+  paragraph-has n (inline x xs) h = (h, tt)
 
-  module _ (spaces : k.character space ≡ true) where
+  -- at a depth
+  module _ (spaces : k.character space ≡ true) (at : ℕ) where
     space-text : IsText (space ∷ [])
     unfolding encode
     space-text = (space ∷ [], refl, (refl, spaces, tt))
@@ -245,7 +256,7 @@ module _ (k : Leaves) where
     -- ---- what is begun
 
     pub record HasWriting (w : Writing) : Type 0 where
-      pub done : AllBlocks w.done
+      pub done : AllBlocks at w.done
       pub content : HasLine w.content
       pub gap : IsText w.gap.white
       pub written : IsWritten w.latest w.content w.around w.anchors
@@ -266,7 +277,7 @@ module _ (k : Leaves) where
 
     ended-has : (w : Writing) → HasWriting w → HasWriting (ended w)
     ended-has w h = record {
-      done = blocks-append w.done (open_paragraph w) h.done (paragraph-has (whole_content w) (whole-has w h));
+      done = blocks-append at w.done (open_paragraph w) h.done (paragraph-has at (whole_content w) (whole-has w h));
       content = tt;
       gap = text-nil;
       written = refl;
@@ -377,13 +388,13 @@ module _ (k : Leaves) where
         (either-writing (is_boxed_item w) w (record (ended w) { met = met_before.Nothing }) h
         (record { done = e.done; content = e.content; gap = e.gap; written = e.written }))
 
-    blocked-has : (w : Writing) (b : Block) → HasWriting w → HasBlock b → HasWriting (blocked w b)
+    blocked-has : (w : Writing) (b : Block) → HasWriting w → HasBlock at b → HasWriting (blocked w b)
     blocked-has w b h g =
         let e = ended-has w h in
         either-writing w.is_flat (broken_off w)
         (record (ended w) { done = (ended w).done ++ b ∷ []; met = met_before.Nothing }) (broken-has w h)
         (record {
-          done = blocks-append (ended w).done (b ∷ []) e.done (g, tt);
+          done = blocks-append at (ended w).done (b ∷ []) e.done (g, tt);
           content = e.content;
           gap = e.gap;
           written = e.written;
@@ -428,7 +439,7 @@ module _ (k : Leaves) where
         by_latest Plain h = (h.0, along-before w.content w.around h.1)
         by_latest Code h = (h.0, along-before w.content w.around h.1, λ e. absurd (some w.anchors e))
 
-    fed-has : (w : Writing) (p : Part) → HasWriting w → HasPart p → HasWriting (fed w p)
+    fed-has : (w : Writing) (p : Part) → HasWriting w → HasPart at p → HasWriting (fed w p)
     fed-has w (run s around is_code) h g = run-has (chars s) w around is_code h g.1 g.0
     fed-has w (picture address title description around) h g =
         leaf-has w around false (image address title description) h g.1 g.0 tt (λ i. absurd (cc))
@@ -440,17 +451,17 @@ module _ (k : Leaves) where
     fed-has w edge h g = edged-has w h
     fed-has w (whole b) h g = blocked-has w b h g
 
-    pub all-fed : (w : Writing) (ps : List Part) → HasWriting w → AllParts ps → HasWriting (fed_all w ps)
+    pub all-fed : (w : Writing) (ps : List Part) → HasWriting w → AllParts at ps → HasWriting (fed_all w ps)
     all-fed w [] h g = h
     all-fed w (p ∷ ps) h g = all-fed (fed w p) ps (fed-has w p h g.0) g.1
 
-    pub writing-blocks : (w : Writing) → HasWriting w → HaveBlocks (blocks_in w)
-    writing-blocks w h = of-blocks (ended w).done (ended-has w h).done
+    pub writing-blocks : (w : Writing) → HasWriting w → HaveBlocks at (blocks_in w)
+    writing-blocks w h = of-blocks at (ended w).done (ended-has w h).done
 
-    pub parts-blocks : (in_item : Bool) (ps : List Part) → AllParts ps → HaveBlocks (blocks_of in_item ps)
+    pub parts-blocks : (in_item : Bool) (ps : List Part) → AllParts at ps → HaveBlocks at (blocks_of in_item ps)
     parts-blocks in_item ps h =
         writing-blocks (fed_all (begun in_item false) ps) (all-fed (begun in_item false) ps (begun-has in_item false) h)
 
-    pub parts-line : (ps : List Part) → AllParts ps → HasWhole (line_of ps)
+    pub parts-line : (ps : List Part) → AllParts at ps → HasWhole (line_of ps)
     parts-line ps h =
         whole-has (fed_all (begun false true) ps) (all-fed (begun false true) ps (begun-has false true) h)

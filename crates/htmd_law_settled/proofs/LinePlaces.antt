@@ -6,7 +6,8 @@ use Rattle.std.specs.Prelude.{if◌then◌else◌, Option, Some, None}
 use Rattle.std.specs.Str.{IsUtf8}
 use Rattle.htmd_lexical.proofs.Cases.{test}
 use Rattle.htmd_document.specs.Formats.{is_same_format}
-use Rattle.htmd_document.specs.Documents.{Inline, text, code, formatted, link, image, anchor, line_break}
+use Rattle.htmd_lexical.specs.Characters.{space}
+use Rattle.htmd_document.specs.Documents.{Inline, text, code, formatted, link, image, anchor, line_break, task}
 use Rattle.htmd_document.specs.Documents.{Inlines, no_inlines, inline}
 use Rattle.htmd_flow.specs.Nesting.{Wrapper, of_format, of_link, wrapper_of, is_same, shared, before_link, wrapped}
 use Rattle.htmd_flow.specs.Nesting.{wrapped_by, one_inline, met, joined, with_content, in_last, behind}
@@ -19,6 +20,9 @@ use Rattle.htmd_law_settled.proofs.LineShapes.{BlackEnd, StartsInline, EndsInlin
 use Rattle.htmd_law_settled.proofs.LineShapes.{Starts, Ends, Beside, ShapedInline, Shaped, Whole, Follows, start-touch}
 use Rattle.htmd_law_settled.proofs.LineShapes.{ends-touch}
 use Rattle.htmd_law_settled.proofs.LineShapes.{joined-shaped, joined-starts, joined-starts-on, joined-ends, ends-follow}
+use Rattle.htmd_law_settled.proofs.LineShapes.{Boxed}
+use Rattle.htmd_law_settled.proofs.BoxShapes.{NoTask, fills-start, fills-end, one-boxed, joined-boxed, last-starts}
+use Rattle.htmd_law_settled.proofs.BoxShapes.{last-boxed, space-utf8}
 use Rattle.htmd_law_settled.proofs.LineShapes.{plain-follow, LastApart, IsGapInline, gap-shaped, gap-follow}
 
 -- ---- changes so deep in the last inlines
@@ -213,10 +217,10 @@ leaf-plain (image a t d) h v = refl
 leaf-plain y h v = absurd h
 
 leaf-shaped : (y : Inline) → IsLeaf y
-    → ShapedInline y × StartsInline y × EndsInline y × EndOf (is_code_inline y) y
-leaf-shaped (text s) h = (h.2, h.0, h.1, tt)
-leaf-shaped (code s) h = (h, tt, tt, tt)
-leaf-shaped (image a t d) h = (tt, tt, tt, tt)
+    → ShapedInline y × StartsInline y × EndsInline y × EndOf (is_code_inline y) y × NoTask y
+leaf-shaped (text s) h = (h.2, h.0, h.1, tt, tt)
+leaf-shaped (code s) h = (h, tt, tt, tt, tt)
+leaf-shaped (image a t d) h = (tt, tt, tt, tt, tt)
 leaf-shaped y h = absurd h
 
 abbrev pub wrappers : List Around → List Wrapper
@@ -224,12 +228,14 @@ wrappers around = map wrapper_of around
 
 wrapped-shaped : (around : List Around) (y : Inline) → IsLeaf y
     → ShapedInline (wrapped around y) × StartsInline (wrapped around y) × EndsInline (wrapped around y)
-    × AlongInline (is_code_inline y) (wrappers around) (wrapped around y)
+    × AlongInline (is_code_inline y) (wrappers around) (wrapped around y) × NoTask (wrapped around y)
 wrapped-shaped [] y h = leaf-shaped y h
 wrapped-shaped (part.formatted f ∷ around) y h =
-    let r = wrapped-shaped around y h in ((((r.0, tt, tt, tt), r.1, r.2)), tt, tt, (refl, r.3))
+    let r = wrapped-shaped around y h in
+    (((r.0, tt, tt, tt), r.1, r.2, one-boxed (wrapped around y) no_inlines r.4), tt, tt, (refl, r.3), tt)
 wrapped-shaped (linked node address title ∷ around) y h =
-    let r = wrapped-shaped around y h in ((((r.0, tt, tt, tt), r.1, r.2)), tt, tt, r.3)
+    let r = wrapped-shaped around y h in
+    (((r.0, tt, tt, tt), r.1, r.2, one-boxed (wrapped around y) no_inlines r.4), tt, tt, r.3, tt)
 
 -- ---- a leaf behind others
 
@@ -270,17 +276,29 @@ record Ready (zs : Inlines) (v : Inline) : Type 0 where
   shaped : Shaped zs
   starts : Starts zs
   follows : Follows zs v
+  boxed : Boxed zs
+
+gap-no-task : (g : Inline) → IsGapInline g → NoTask g
+gap-no-task (text s) h = tt
+gap-no-task line_break h = tt
+gap-no-task g h = absurd h
 
 ready-gap : (o : Option Inline) (ms : List Wrapper) (xs : Inlines) (v : Inline) → IsGap o → Whole xs
     → Along false ms xs
     → LastApart xs v → Ready (with_gap o xs) v
-ready-gap None ms xs v i h k a = record { shaped = h.0; starts = h.1; follows = ends-follow xs v h.2 }
+ready-gap None ms xs v i h k a = record {
+  shaped = h.0;
+  starts = h.1;
+  follows = ends-follow xs v h.2;
+  boxed = h.3;
+}
 ready-gap (Some g) ms no_inlines v i h k a = absurd k
 ready-gap (Some g) ms (inline x xs) v i h k a = record {
   shaped = joined-shaped (inline x xs) g h.0 (gap-shaped g i) (ends-follow (inline x xs) g h.2)
       (ends-touch (inline x xs) g h.2);
   starts = joined-starts-on x xs g h.1;
   follows = gap-follow (inline x xs) g v h.0 h.2 a i;
+  boxed = joined-boxed (inline x xs) g h.3 (fills-end (inline x xs) g h.3 h.2) (gap-no-task g i);
 }
 
 anchor-plain : (id : List ℕ) (v : Inline) → is_same_around v (anchor id) ≡ false
@@ -294,6 +312,7 @@ ready-anchors (id ∷ ids) zs v h = ready-anchors ids (joined zs (anchor id)) v 
       (start-touch zs (anchor id) tt);
   starts = joined-starts zs (anchor id) h.starts tt;
   follows = ends-follow (joined zs (anchor id)) v (joined-ends zs (anchor id) h.shaped tt);
+  boxed = joined-boxed zs (anchor id) h.boxed (fills-start zs (anchor id) tt) tt;
 })
 
 -- anchors alone at the end
@@ -303,6 +322,7 @@ anchors-whole (id ∷ ids) zs h = anchors-whole ids (joined zs (anchor id)) (
   joined-shaped zs (anchor id) h.0 tt (plain-follow zs (anchor id) (anchor-plain id)) (start-touch zs (anchor id) tt),
   joined-starts zs (anchor id) h.1 tt,
   joined-ends zs (anchor id) h.0 tt,
+  joined-boxed zs (anchor id) h.3 (fills-start zs (anchor id) tt) tt,
 )
 
 -- ---- so deep
@@ -312,20 +332,10 @@ same-content f (formatted g c) (formatted h d) = refl
 same-content f (formatted g c) x = refl
 same-content f v x = refl
 
-content-starts : (f : Inlines → Inlines) (x : Inline) → StartsInline x → StartsInline (with_content f x)
-content-starts f (formatted g c) h = tt
-content-starts f (link a t c) h = tt
-content-starts f x h = h
-
 content-ends : (f : Inlines → Inlines) (x : Inline) → EndsInline x → EndsInline (with_content f x)
 content-ends f (formatted g c) h = tt
 content-ends f (link a t c) h = tt
 content-ends f x h = h
-
-last-starts : (f : Inlines → Inlines) (xs : Inlines) → Starts xs → Starts (in_last f xs)
-last-starts f no_inlines h = h
-last-starts f (inline x no_inlines) h = content-starts f x h
-last-starts f (inline x (inline y ys)) h = h
 
 last-ends : (f : Inlines → Inlines) (xs : Inlines) → Ends xs → Ends (in_last f xs)
 last-ends f no_inlines h = h
@@ -385,6 +395,10 @@ module _ (i b : Bool) (m : Wrapper) (ms : List Wrapper) (a : Around) (ns : List 
   last-along (inline x (inline y ys)) h k e =
       along-more b x (in_last f (inline y ys)) (wrapper_of a ∷ ns) (last-along (inline y ys) h.2 k e)
 
+-- with its space
+abbrev pub box : Bool → Inlines
+box is_checked = inline (task is_checked) (one_inline (text (space ∷ [])))
+
 module _ (o : Option Inline) (i : IsGap o) (ids : List (List ℕ)) (y : Inline) (l : IsLeaf y) where
   -- a gap, anchors, and the leaf in these
   abbrev pub put : List Around → Inlines → Inlines
@@ -399,6 +413,7 @@ module _ (o : Option Inline) (i : IsGap o) (ids : List (List ℕ)) (y : Inline) 
           joined-shaped zs (wrapped around y) r.shaped w.0 r.follows (start-touch zs (wrapped around y) w.1),
           joined-starts zs (wrapped around y) r.starts w.1,
           joined-ends zs (wrapped around y) r.shaped w.2,
+          joined-boxed zs (wrapped around y) r.boxed (fills-start zs (wrapped around y) w.1) w.4,
         ),
         joined-along (is_code_inline y) zs (wrapped around y) (wrappers around) w.3,
       )
@@ -427,6 +442,7 @@ module _ (o : Option Inline) (i : IsGap o) (ids : List (List ℕ)) (y : Inline) 
           last-shaped false (is_code_inline y) m ms a (wrappers around) f inner xs h.0 k,
           last-starts f xs h.1,
           last-ends f xs h.2,
+          last-boxed f xs h.3,
         ),
         last-along false (is_code_inline y) m ms a (wrappers around) f inner xs h.0 k e,
       )
@@ -447,7 +463,20 @@ module _ (o : Option Inline) (i : IsGap o) (ids : List (List ℕ)) (y : Inline) 
       × Along (is_code_inline y) (wrappers around) (joined (with_anchors ids no_inlines) (wrapped around y))
   put-first around =
       put-ready around (with_anchors ids no_inlines)
-      (ready-anchors ids no_inlines (wrapped around y) (record { shaped = tt; starts = tt; follows = tt }))
+      (ready-anchors ids no_inlines (wrapped around y) (record { shaped = tt; starts = tt; follows = tt; boxed = tt }))
+
+  -- where the box of a task is
+  pub put-box : (is_checked : Bool) (around : List Around)
+      → Whole (joined (with_anchors ids (box is_checked)) (wrapped around y))
+      × Along (is_code_inline y) (wrappers around) (joined (with_anchors ids (box is_checked)) (wrapped around y))
+  put-box d around =
+      put-ready around (with_anchors ids (box d))
+      (ready-anchors ids (box d) (wrapped around y) (record {
+        shaped = (tt, tt, (space-utf8, tt, tt, tt), tt);
+        starts = tt;
+        follows = λ q. refl;
+        boxed = (refl, tt);
+      }))
 
 -- ---- what is shared is so long
 
@@ -478,6 +507,7 @@ module _ (g u : List ℕ) (utf8 : IsUtf8 g) (black : BlackEnd u) (ok : IsUtf8 u)
           code-shaped zs v h.0 l (end-append g u utf8 black) (IsUtf8-append g u utf8 ok),
           joined-starts zs (code v) h.1 tt,
           joined-ends zs (code v) h.0 tt,
+          joined-boxed zs (code v) h.3 (fills-start zs (code v) tt) tt,
         ),
         joined-along true zs (code v) [] tt,
       )
@@ -500,6 +530,7 @@ module _ (g u : List ℕ) (utf8 : IsUtf8 g) (black : BlackEnd u) (ok : IsUtf8 u)
           last-shaped true true m ms a (wrappers around) f inner xs h.0 k,
           last-starts f xs h.1,
           last-ends f xs h.2,
+          last-boxed f xs h.3,
         ),
         last-along true true m ms a (wrappers around) f inner xs h.0 k e,
       )

@@ -9,10 +9,11 @@ use Rattle.std.proofs.Math.Utf8.{scalar}
 use Rattle.std.proofs.lemmas.List.{append-nil}
 use Rattle.std.proofs.lemmas.List.Folds.{list_all-append}
 use Rattle.std.proofs.lemmas.Str.{IsUtf8-append, chars-append, chars-encodes}
+use Rattle.htmd_lexical.specs.Characters.{space}
 use Rattle.htmd_lexical.proofs.BytesLemmas.{same_bytes}
 use Rattle.htmd_document.specs.Formats.{Format, Emphasis, Strong, Deleted, Superscript, Subscript, Inserted, Underlined}
 use Rattle.htmd_document.specs.Formats.{Marked, Small, Keyboard, Abbreviation, is_same_format}
-use Rattle.htmd_document.specs.Documents.{Inline, text, code, formatted, link, line_break}
+use Rattle.htmd_document.specs.Documents.{Inline, text, code, formatted, link, line_break, task}
 use Rattle.htmd_document.specs.Documents.{Inlines, no_inlines, inline}
 use Rattle.htmd_flow.specs.Nesting.{one_inline, met, joined}
 use Rattle.htmd_shown.specs.Spaces.{is_white, is_blank_text}
@@ -45,7 +46,7 @@ BlackEnd s =
     (t : List ℕ) × (c : ℕ) × (s ≡ t ++ encode_utf8 c) × IsUtf8 t × (scalar c ≡ true)
     × (is_white c ≡ false)
 
-start-append : (s u : List ℕ) → BlackStart s → BlackStart (s ++ u)
+pub start-append : (s u : List ℕ) → BlackStart s → BlackStart (s ++ u)
 start-append s u h =
     (h.0, h.1 ++ u, ap (λ (y : List ℕ). y ++ u) h.2 ∙ append_assoc (encode_utf8 h.0) h.1 u, h.3, h.4)
 
@@ -107,6 +108,16 @@ Ends no_inlines = Unit {0}
 Ends (inline x no_inlines) = EndsInline x
 Ends (inline x (inline y ys)) = Ends (inline y ys)
 
+-- behind the box of a task stand a space, and what begins with something to see
+abbrev pub BehindBox : Inlines → Type 0
+BehindBox (inline (text (c ∷ [])) xs) = (c ≡ space) × Starts xs
+BehindBox (inline (text (c ∷ d ∷ s)) xs) = (c ≡ space) × BlackStart (d ∷ s)
+BehindBox xs = ⊥
+
+abbrev pub Boxed : Inlines → Type 0
+Boxed (inline (task is_checked) xs) = BehindBox xs
+Boxed xs = Unit {0}
+
 -- what stands two places after an inline isn't in its format if there is only a gap between
 abbrev pub Apart : Inline → Inlines → Type 0
 Apart x (inline y (inline z zs)) = is_gap y ≡ true → is_same_around x z ≡ false
@@ -126,8 +137,8 @@ abbrev mutual
   pub ShapedInline : Inline → Type 0
   ShapedInline (text s) = IsUtf8 s
   ShapedInline (code s) = BlackStart s × BlackEnd s × IsUtf8 s
-  ShapedInline (formatted f content) = Shaped content × Starts content × Ends content
-  ShapedInline (link address title content) = Shaped content × Starts content × Ends content
+  ShapedInline (formatted f content) = Shaped content × Starts content × Ends content × Boxed content
+  ShapedInline (link address title content) = Shaped content × Starts content × Ends content × Boxed content
   ShapedInline x = Unit {0}
 
   pub Shaped : Inlines → Type 0
@@ -135,7 +146,7 @@ abbrev mutual
   Shaped (inline x xs) = ShapedInline x × Apart x xs × Shaped xs × BesideFirst x xs
 
 abbrev pub Whole : Inlines → Type 0
-Whole xs = Shaped xs × Starts xs × Ends xs
+Whole xs = Shaped xs × Starts xs × Ends xs × Boxed xs
 
 -- ---- one more inline
 

@@ -22,9 +22,8 @@ use Rattle.htmd_law_settled.proofs.LineShapes.{Whole, BlackEnd, character-utf8}
 use Rattle.htmd_law_settled.proofs.LinePlaces.{deep, deep-twice, deep-none, Long, behind-deep, behind-take}
 use Rattle.htmd_law_settled.proofs.LinePlaces.{with_anchors}
 use Rattle.htmd_law_settled.proofs.LinePlaces.{anchors-deep, Along, IsLeaf, wrappers, with_gap, IsGap, anchors-whole}
-use Rattle.htmd_law_settled.proofs.LinePlaces.{put-end, placed, put-first, shared-long, is_code_inline, code_put}
+use Rattle.htmd_law_settled.proofs.LinePlaces.{put-box, placed, put-first, shared-long, is_code_inline, code_put}
 use Rattle.htmd_law_settled.proofs.LinePlaces.{code-placed, drop-all}
-use lib.Utf8.{encode}
 
 -- what is written of a line, by what showed last in it, and what stands around that
 abbrev pub IsWritten : Latest → Inlines → List Wrapper → List (List ℕ) → Type 0
@@ -61,10 +60,6 @@ code-of y e h = absurd (cc)
 no_ids : (ids : List (List ℕ)) → (length ids == 0) ≡ true → ids ≡ []
 no_ids [] e = refl
 no_ids (id ∷ ids) e = absurd (let q : suc (length ids) ≡ 0 = eqb-true (suc (length ids)) 0 e in omega arith)
-
-space-utf8 : IsUtf8 (space ∷ [])
-unfolding encode
-space-utf8 = (space ∷ [], (refl, refl))
 
 module _ (ids : List (List ℕ)) (y : Inline) (l : IsLeaf y) (around : List Around) where
   -- a gap, anchors and the leaf, all so deep
@@ -162,17 +157,15 @@ module _ (ids : List (List ℕ)) (y : Inline) (l : IsLeaf y) (around : List Arou
     shown-written Nothing e h =
         subst (λ xs. Put 0 xs) (sym h) (put-first None tt ids y l around)
     shown-written Task e h =
-        subst (λ xs. Put 0 (joined xs (text (space ∷ [])))) (sym h.1)
-        (put-end (Some (text (space ∷ []))) space-utf8 ids y l [] around (one_inline (task h.0))
-        ((tt, tt, tt, tt), tt, tt) tt refl)
+        subst (λ xs. Put 0 (joined xs (text (space ∷ [])))) (sym h.1) (put-box None tt ids y l h.0 around)
     shown-written Plain e h =
         leaf-put h.0 h.1 (λ q i. absurd (let z : is_code_leaf Plain ≡ true = ap is_code_leaf (sym e) ∙ q in cc))
     shown-written Code e h = leaf-put h.0 h.1 (λ q i. h.2 (sym same ∙ i))
 
 pub content-whole : (w : Writing) (latest : Latest) → IsWritten latest w.content w.around w.anchors
     → Whole (if is_leaf latest then w.content else no_inlines)
-content-whole w Nothing h = (tt, tt, tt)
-content-whole w Task h = (tt, tt, tt)
+content-whole w Nothing h = (tt, tt, tt, tt)
+content-whole w Task h = (tt, tt, tt, tt)
 content-whole w Plain h = h.0
 content-whole w Code h = h.0
 

@@ -1,21 +1,33 @@
 -- The trees that the document of a page is made of have neat leaves.
-use Rattle.std.proofs.Common.{◌≡◌, ℕ, true, false, List, [], ◌∷◌, Option, Some, None, refl, ap, sym, subst}
-use Rattle.std.specs.Prelude.{codes, not, ◌&&◌, ◌||◌}
-use Rattle.std.specs.Str.{chars, is_utf8}
-use Rattle.std.proofs.lemmas.Bool.{and_from, or_right}
+use Rattle.std.proofs.Common.{◌≡◌, ℕ, Bool, true, false, List, [], ◌∷◌, Option, Some, None, refl, ap, sym, ◌∙◌, subst}
+use Rattle.std.specs.Prelude.{codes, not, ◌&&◌}
+use Rattle.std.specs.Str.{chars, is_utf8, IsUtf8}
+use Rattle.std.proofs.lemmas.Bool.{and_from, and_parts}
 use Rattle.std.proofs.lemmas.Str.{scalars-chars}
+use Rattle.htmd_lexical.specs.Characters.{space}
 use Rattle.htmd_lexical.specs.AttributePairs.{AttributePair}
 use Rattle.htmd_lexical.specs.WhiteSpace.{is_ascii_white_space}
 use Rattle.htmd_nodes.specs.NumberedTrees.{NumberedTree}
 use Rattle.htmd_shown.specs.Facts.{inserted_facts}
 use Rattle.htmd_shown.specs.declared.facts.Facts.{Facts}
+use Rattle.htmd_shown.specs.declared.role.Role.{Role}
 use Rattle.htmd_shown.specs.declared.role.Role.TheVariants as role
-use Rattle.htmd_shown.specs.AllTexts.{all_text_among, with_line_feeds, lines_of, without_last_line_feed}
-use Rattle.htmd_shown.specs.Attributes.{text_of, title_of, description_of, in_line, trimmed}
+use Rattle.htmd_shown.specs.AllTexts.{all_text_among, with_line_feeds, lines_of, without_last_line_feed, dollar_sign}
+use Rattle.htmd_shown.specs.Attributes.{text_of, title_of, address, description_of, in_line, trimmed, is_filled}
 use Rattle.htmd_shown.specs.Shown.{Sight, shown_in, followed_by}
 use Rattle.htmd_shown.specs.ShownTexts.{is_shown}
 use Rattle.htmd_shown.specs.SimpleTrees.{Simple, text, image, formula, embedded, anchor, element, Simples, none, more}
 use Rattle.std.specs.List.{list_all}
+use Rattle.htmd_document.specs.declared.document.Format as declared_format
+use Rattle.htmd_document.specs.declared.document.Format.TheVariants as declared
+use Rattle.htmd_document.specs.declared.document.InlineElement as declared_element
+use Rattle.htmd_document.specs.declared.document.InlineElement.TheVariants as written
+use Rattle.htmd_document.specs.Documents.{Items}
+use Rattle.htmd_document.specs.Formats.{of_format, of_element}
+use Rattle.htmd_lexical.proofs.Cases.{test}
+use Rattle.htmd_law_rendering.specs.PlainReadings.{items_have_no_elements}
+use Rattle.htmd_law_returning.specs.PageFormats.{format_shows}
+use Rattle.htmd_law_returning.specs.SettledDocuments.{is_right_list}
 use Rattle.htmd_document_of_tree.specs.declared.anchors.Anchors.{Anchors}
 use Rattle.htmd_document_of_tree.specs.Anchors.{Placing, anchors, all_placed, placing_after_all, values_of}
 use Rattle.htmd_document_of_tree.specs.Anchors.{last_anchors, targets_by}
@@ -31,84 +43,152 @@ use Rattle.htmd_law_documents.specs.SimpleForms.{AreSound}
 use Rattle.htmd_law_documents.specs.TreeForms.{is_text_tree}
 use Rattle.htmd_law_documents.proofs.ShownTreeLemmas.{page-sound}
 use Rattle.htmd_law_documents.proofs.SoundLemmas.{limited-sound, all-placed-kept}
+use Rattle.htmd_law_documents.specs.DocumentTexts.{visible}
+use Rattle.htmd_law_documents.proofs.VisibleLemmas.{shows-itself}
+use Rattle.htmd_law_documents.proofs.CodeLemmas.{feeds-show, trimmed-shows}
+use Rattle.htmd_law_documents.proofs.NormalLettersLemmas.{blank-visible}
 use Rattle.htmd_law_documents.proofs.NormalCodeLemmas.{feeds-clean}
-use Rattle.htmd_law_documents.proofs.NormalValueLemmas.{IsClean, clean-nil, AreTexts, value-text, in_line-clean}
+use Rattle.htmd_law_documents.proofs.NormalValueLemmas.{IsClean, IsBlack, clean-nil, AreTexts, value-text}
+use Rattle.htmd_law_documents.proofs.NormalValueLemmas.{in_line-clean}
 use Rattle.htmd_law_documents.proofs.NormalTreeLemmas.{AreIds, IsFine, AreFine, IsLed, IsLedApart, by-content}
 use Rattle.htmd_law_documents.proofs.NormalTreeLemmas.{content-text}
 use Rattle.htmd_law_documents.proofs.NormalShownLemmas.{AreClear, page-clear}
 use Rattle.htmd_law_documents.proofs.NormalPlacedLemmas.{limited-clear, AllNamed, targets-named, all-after-named}
 use Rattle.htmd_law_documents.proofs.NormalPlacedLemmas.{ArePlaced, all-placed-fine, anchors-ids, values-ids}
 use Rattle.htmd_law_documents.proofs.NormalPiecedLemmas.{pieced-ids, all-pieced-fine}
-use Rattle.htmd_law_settled.specs.NeatLeaves.{neat, is_math, is_neat_code, LeavesAreNeat, NoBlockIsElement}
+use Rattle.htmd_law_documents.specs.WrapperLaws.{final_trees}
+use Rattle.htmd_law_settled.specs.Leaves.{Leaves}
+use Rattle.htmd_law_settled.specs.NeatLeaves.{neat, is_neat_code, is_neat_list, LeavesAreNeat, NumbersFit}
 use Rattle.htmd_law_settled.proofs.LeafLines.{AllCharacters, all-characters, HaveBlocks, parts-blocks}
 use Rattle.htmd_law_settled.proofs.LeafNodes.{flow-has}
-use Rattle.htmd_law_settled.proofs.LeafElements.{HasTitle, HasAttributes, HasLines, HasCode, HasImage, HasTree}
+use Rattle.htmd_law_settled.proofs.LeafElements.{HasTitle, HasElement, HasRole, HasLines, HasCode, HasImage, HasTree}
 use Rattle.htmd_law_settled.proofs.LeafElements.{HaveTrees}
 use Rattle.htmd_law_settled.proofs.LeafElements.{nodes-have}
+use Rattle.htmd_document.specs.NormalInlines.{is_attribute, is_kept}
+use Rattle.std.proofs.lemmas.Str.{IsUtf8-from_is_utf8}
+use Rattle.htmd_law_documents.proofs.NormalElementLemmas.{IsSource}
+use Rattle.htmd_law_documents.proofs.NormalValueLemmas.{address-fine}
+use Rattle.htmd_law_rendering.specs.RenderedTrees.{encoded_address}
+use Rattle.htmd_law_returning.specs.SettledDocuments.{is_settled_address}
+use Rattle.htmd_law_settled.specs.Leaves.{Leaves}
+use Rattle.htmd_law_settled.proofs.EncodedAddresses.{encoded-settled}
+use Rattle.htmd_law_settled.proofs.EncodedLeaves.{encoding, leaves-encoded}
 use Rattle.htmd_law_settled.proofs.OneLines.{one-line, title-settled}
 use Rattle.htmd_law_returning.specs.SettledDocuments.{is_one_line, is_settled_title, has_settled_language}
+use Rattle.htmd_law_returning.specs.SettledDocuments.{is_settled_code}
 use Rattle.htmd_shown.specs.Spaces.{is_blank_text}
 use Rattle.std.proofs.lemmas.Str.{is_utf8-from_IsUtf8}
 use Rattle.htmd_law_settled.proofs.WholeHolds.{neat-holds}
-use Rattle.htmd_law_settled.proofs.LeafHolds.{blocks-hold, blocks-plain}
+use Rattle.htmd_law_settled.proofs.LeafHolds.{blocks-hold, blocks-fit}
 use Rattle.htmd_law_settled.proofs.ShownPieces.{IsShown, clean-shown, AllShown, trimmed-shown, lines-shown}
 use Rattle.htmd_law_settled.proofs.ShownPieces.{without-shown}
 use Rattle.htmd_law_settled.proofs.ShownPieces.{without-filled, language-named, white-ascii}
 use Rattle.htmd_law_documents.proofs.PiecesLemmas.{ascii-white}
 
+-- with its addresses encoded a tree has neat leaves
+abbrev pub leaves : Leaves
+leaves = encoding neat
+
 -- ---- leaves
 
-characters : (s : List ℕ) → IsShown s → AllCharacters neat (chars s)
-characters s h = all-characters neat (chars s) (scalars-chars s h.utf8) h.shown
+characters : (s : List ℕ) → IsShown s → AllCharacters leaves (chars s)
+characters s h = all-characters leaves (chars s) (scalars-chars s h.utf8) h.shown
 
-clean-characters : (s : List ℕ) → IsClean s → AllCharacters neat (chars s)
+clean-characters : (s : List ℕ) → IsClean s → AllCharacters leaves (chars s)
 clean-characters s h = characters s (clean-shown s h)
 
-any-title : (o : Option (List ℕ)) → HasTitle neat o
-any-title None = tt
-any-title (Some title) = refl
+shown-title : (o : Option (List ℕ)) → is_settled_title o ≡ true → HasTitle leaves o
+shown-title None e = tt
+shown-title (Some title) e = e
 
-attributes-have : (attributes : List AttributePair) → AreTexts attributes → HasAttributes neat attributes
-attributes-have attributes h =
-    record { link = title-settled attributes h; title = any-title (title_of attributes) }
+attribute-settled : (s : List ℕ) → is_attribute s ≡ true → is_settled_address (encoded_address s) ≡ true
+attribute-settled s h = encoded-settled s (IsUtf8-from_is_utf8 s (and_parts (is_utf8 s) (list_all is_kept s) h).0)
 
-line-characters : (lines : List (List ℕ)) → AllShown lines → HasLines neat lines
+-- an address of a page
+address-settled : (s : List ℕ) → IsUtf8 s → is_settled_address (encoded_address (address s)) ≡ true
+address-settled s h = attribute-settled (address s) (address-fine s h)
+
+any-element : (r : Role) → HasElement leaves r
+any-element (role.Element g) = shown_element g
+  where
+    shown_element : (g : declared_element.InlineElement) → format_shows true (of_element g) ≡ true
+    shown_element written.Superscript = refl
+    shown_element written.Subscript = refl
+    shown_element written.Inserted = refl
+    shown_element written.Underlined = refl
+    shown_element written.Marked = refl
+    shown_element written.Small = refl
+    shown_element written.Keyboard = refl
+any-element r = tt
+
+any-format : (g : declared_format.Format) → format_shows true (of_format g) ≡ true
+any-format declared.Emphasis = refl
+any-format declared.Strong = refl
+any-format declared.Deleted = refl
+
+role-has : (r : Role) (attributes : List AttributePair) → AreTexts attributes → HasRole leaves r attributes
+role-has r attributes h =
+    let href : List ℕ = text_of (codes "href") attributes in
+    record {
+      link = λ e. and_from (is_settled_address (encoded_address (address href)))
+          (is_settled_title (title_of attributes))
+          (address-settled href (value-text attributes (codes "href") h)) (title-settled attributes h);
+      title = λ e. shown-title (title_of attributes) (title-settled attributes h);
+      element = any-element r;
+    }
+
+line-characters : (lines : List (List ℕ)) → AllShown lines → HasLines leaves lines
 line-characters [] h = tt
 line-characters (s ∷ lines) h = (characters s h.0, line-characters lines h.1)
 
 neat-code : (language : Option (List ℕ)) (s : List ℕ) → has_settled_language language ≡ true → IsShown s
-    → (is_math language || not (is_blank_text s)) ≡ true → is_neat_code language s ≡ true
+    → is_blank_text s ≡ false → is_neat_code language s ≡ true
 neat-code language s e h f =
     let utf8 = is_utf8-from_IsUtf8 s h.utf8 in
-    and_from (has_settled_language language && (is_utf8 s && list_all is_shown (chars s)))
-    (is_math language || not (is_blank_text s))
-    (and_from (has_settled_language language) (is_utf8 s && list_all is_shown (chars s)) e
-    (and_from (is_utf8 s) (list_all is_shown (chars s)) utf8 h.shown)) f
+    and_from (has_settled_language language) (is_settled_code s) e
+    (and_from (is_utf8 s && list_all is_shown (chars s)) (not (is_blank_text s))
+    (and_from (is_utf8 s) (list_all is_shown (chars s)) utf8 h.shown) (ap not f))
 
 code-has : (attributes : List AttributePair) (content : Simples) → IsClean (all_text_among content)
-    → HasCode neat attributes content
+    → HasCode leaves attributes content
 code-has attributes content h =
     let s : List ℕ = with_line_feeds (all_text_among content) in
     let shown = clean-shown s (feeds-clean (all_text_among content) h) in
     record {
       lines = line-characters (lines_of s) (lines-shown s shown);
       block = λ near e. neat-code (language_of_block attributes (list_of content) near) (without_last_line_feed s)
-          (language-named attributes (list_of content) near) (without-shown s shown)
-          (rw (without-filled s shown e)
-          (or_right (is_math (language_of_block attributes (list_of content) near)) true refl));
+          (language-named attributes (list_of content) near) (without-shown s shown) (without-filled s shown e);
     }
 
 description-clean : (attributes : List AttributePair) → AreTexts attributes → IsClean (description_of attributes)
 description-clean attributes h =
     in_line-clean (text_of (codes "alt") attributes) (value-text attributes (codes "alt") h)
 
-image-has : (o : Option (List ℕ)) (attributes : List AttributePair) → AreTexts attributes
-    → HasImage neat o attributes
-image-has None attributes h =
+image-has : (o : Option (List ℕ)) (attributes : List AttributePair) → IsSource o → AreTexts attributes
+    → HasImage leaves o attributes
+image-has None attributes u h =
     clean-characters (description_of attributes) (description-clean attributes h)
-image-has (Some s) attributes h =
-    and_from (is_settled_title (title_of attributes)) (is_one_line (description_of attributes))
-    (title-settled attributes h) (one-line (text_of (codes "alt") attributes) (value-text attributes (codes "alt") h))
+image-has (Some s) attributes u h =
+    let settled = is_settled_address (encoded_address (address s)) in
+    and_from (settled && is_settled_title (title_of attributes)) (is_one_line (description_of attributes))
+    (and_from settled (is_settled_title (title_of attributes)) (address-settled s u) (title-settled attributes h))
+    (one-line (text_of (codes "alt") attributes) (value-text attributes (codes "alt") h))
+
+-- ---- formulas
+
+formula-shown : (tex : List ℕ) → IsClean tex → IsShown (trimmed (with_line_feeds tex))
+formula-shown tex h =
+    trimmed-shown is_ascii_white_space ascii-white white-ascii (with_line_feeds tex)
+    (clean-shown (with_line_feeds tex) (feeds-clean tex h))
+
+-- what shows of TeX shows of its code
+formula-filled : (tex : List ℕ) → IsBlack tex → is_blank_text (trimmed (with_line_feeds tex)) ≡ false
+formula-filled tex h =
+    let code : List ℕ = trimmed (with_line_feeds tex) in
+    let feeds = feeds-show tex (visible tex) (shows-itself tex h.0.utf8) in
+    let held = trimmed-shows is_ascii_white_space ascii-white (with_line_feeds tex) feeds.utf8 in
+    blank-visible code (formula-shown tex h.0).shown
+    ∙ (ap (λ cs. not (is_filled cs)) (held.is ∙ feeds.is) ∙ (sym (blank-visible tex h.0.shown) ∙ h.1))
 
 -- ---- anchors
 
@@ -121,7 +201,7 @@ ids-clean (more (formula tex is_alone attributes) ts) h = absurd h
 ids-clean (more (embedded id s title attributes ids) ts) h = absurd h
 ids-clean (more (element id r facts attributes content) ts) h = absurd h
 
-ids-have : (ts : Simples) → AreIds ts → HaveTrees neat ts
+ids-have : (ts : Simples) → AreIds ts → HaveTrees leaves ts
 ids-have none h = tt
 ids-have (more (anchor id) ts) h = (tt, ids-have ts h.1)
 ids-have (more (text s) ts) h = absurd h
@@ -132,39 +212,44 @@ ids-have (more (element id r facts attributes content) ts) h = absurd h
 
 -- an element for anchors alone
 anchors-have : (id : ℕ) (facts : Facts) (attributes : List AttributePair) (inner : Simples) → AreIds inner
-    → HasTree neat (element id role.Anchors facts attributes inner)
+    → HasTree leaves (element id role.Anchors facts attributes inner)
 anchors-have id facts attributes inner h =
-    (λ e. absurd (cc), code-has attributes inner (ids-clean inner h), ids-have inner h)
+    let own : HasRole leaves role.Anchors attributes =
+    record { link = λ e. absurd (cc); title = λ e. absurd (cc); element = tt } in
+    (own, code-has attributes inner (ids-clean inner h), ids-have inner h)
 
 -- ---- trees
 
-one-tree : (t : Simple) (ts : Simples) → HasTree neat t → ts ≡ none → HaveTrees neat (more t ts)
-one-tree t ts h e = subst (λ (us : Simples). HaveTrees neat (more t us)) (sym e) (h, tt)
+one-tree : (t : Simple) (ts : Simples) → HasTree leaves t → ts ≡ none → HaveTrees leaves (more t ts)
+one-tree t ts h e = subst (λ (us : Simples). HaveTrees leaves (more t us)) (sym e) (h, tt)
 
 mutual
-  tree-has : (t : Simple) → IsFine t → HasTree neat t
+  tree-has : (t : Simple) → IsFine t → HasTree leaves t
   tree-has (text s) h = clean-characters s h
-  tree-has (image o attributes) h = image-has o attributes h.1
+  tree-has (image o attributes) h = image-has o attributes h.0 h.1
   tree-has (formula tex is_alone attributes) h =
-      let s : List ℕ = trimmed (with_line_feeds tex) in (
-        clean-characters (in_line tex) (in_line-clean tex h.utf8),
-        neat-code (Some (codes "math")) s refl (trimmed-shown is_ascii_white_space ascii-white white-ascii
-            (with_line_feeds tex) (clean-shown (with_line_feeds tex) (feeds-clean tex h))) refl,
+      let code : IsShown (trimmed (with_line_feeds tex)) = formula-shown tex h.0 in (
+        clean-characters (in_line tex) (in_line-clean tex h.0.utf8),
+        neat-code (Some (codes "math")) (trimmed (with_line_feeds tex)) refl code (formula-filled tex h),
       )
-  tree-has (embedded id s title attributes ids) h = (refl, clean-characters title h.1)
+  tree-has (embedded id s title attributes ids) h = (
+    and_from (is_settled_address (encoded_address s)) true (attribute-settled s h.0) refl,
+    clean-characters title
+        h.1,
+  )
   tree-has (anchor id) h = absurd h
   tree-has (element id r facts attributes content) h = (
-    λ e. attributes-have attributes h.0,
+    role-has r attributes h.0,
     code-has attributes content (content-text r content h.2),
-    by-content (HaveTrees neat content) r content (λ k. trees-have content k) (λ e k. led-have content k)
+    by-content (HaveTrees leaves content) r content (λ k. trees-have content k) (λ e k. led-have content k)
         (λ e k. apart-have content k) h.2,
   )
 
-  trees-have : (ts : Simples) → AreFine ts → HaveTrees neat ts
+  trees-have : (ts : Simples) → AreFine ts → HaveTrees leaves ts
   trees-have none h = tt
   trees-have (more t ts) h = (tree-has t h.0, trees-have ts h.1)
 
-  led-have : (ts : Simples) → IsLed ts → HaveTrees neat ts
+  led-have : (ts : Simples) → IsLed ts → HaveTrees leaves ts
   led-have none h = absurd h
   led-have (more (anchor id) ts) h = (tt, led-have ts h.1)
   led-have (more (text s) ts) h = one-tree (text s) ts (tree-has (text s) h.0) h.2
@@ -177,7 +262,7 @@ mutual
   led-have (more (element id r facts attributes content) ts) h =
       one-tree (element id r facts attributes content) ts (tree-has (element id r facts attributes content) h.0) h.2
 
-  apart-have : (ts : Simples) → IsLedApart ts → HaveTrees neat ts
+  apart-have : (ts : Simples) → IsLedApart ts → HaveTrees leaves ts
   apart-have (more (element id role.Anchors facts attributes inner) (more t ts)) h =
       (anchors-have id facts attributes inner h.0, one-tree t ts (tree-has t h.1) h.3)
   apart-have ts h = absurd h
@@ -188,11 +273,12 @@ pieced-followed : (ts us : Simples) → pieced_all (followed_by ts us) ≡ follo
 pieced-followed none us = refl
 pieced-followed (more t ts) us = ap (more (pieced t)) (pieced-followed ts us)
 
-followed-have : (ts us : Simples) → HaveTrees neat ts → HaveTrees neat us → HaveTrees neat (followed_by ts us)
+followed-have : (ts us : Simples) → HaveTrees leaves ts → HaveTrees leaves us
+    → HaveTrees leaves (followed_by ts us)
 followed-have none us g h = h
 followed-have (more t ts) us g h = (g.0, followed-have ts us g.1 h)
 
-last-have : (targets : List Target) → AllNamed targets → HaveTrees neat (pieced_all (last_anchors targets))
+last-have : (targets : List Target) → AllNamed targets → HaveTrees leaves (pieced_all (last_anchors targets))
 last-have [] n = tt
 last-have (t ∷ targets) n =
     let ids : Simples = anchors (values_of (t ∷ targets)) in (
@@ -201,10 +287,10 @@ last-have (t ∷ targets) n =
       tt,
     )
 
-document-has : (which : Anchors) (sight : Sight) (tree : NumberedTree) → sight.is_rich ≡ false
-    → is_text_tree tree ≡ true → HaveBlocks neat (document_of_tree which sight tree)
-unfolding document_of_tree document_by
-document-has which sight tree r e =
+-- the trees that the document is made of
+pub trees-neat : (which : Anchors) (sight : Sight) (tree : NumberedTree) → is_text_tree tree ≡ true
+    → HaveTrees leaves (final_trees which sight tree)
+trees-neat which sight tree e =
     let shown : Simples = shown_in sight tree in
     let ts : Simples = limited shown in
     let clear : AreClear ts = limited-clear shown (page-clear sight tree e) in
@@ -215,19 +301,38 @@ document-has which sight tree r e =
     let kept : AreSound (all_placed p ts) = (all-placed-kept p ts sound).sound in
     let fine : AreFine (pieced_all (all_placed p ts)) = all-pieced-fine (all_placed p ts) kept placed in
     let last : List Target = (placing_after_all p ts).targets in
-    let all : Simples = pieced_all (followed_by (all_placed p ts) (last_anchors last)) in
-    let have : HaveTrees neat all =
-    subst (HaveTrees neat) (sym (pieced-followed (all_placed p ts) (last_anchors last)))
+    subst (HaveTrees leaves) (sym (pieced-followed (all_placed p ts) (last_anchors last)))
     (followed-have (pieced_all (all_placed p ts)) (pieced_all (last_anchors last))
-    (trees-have (pieced_all (all_placed p ts)) fine) (last-have last (all-after-named p ts named))) in
-    parts-blocks neat refl false (flow_all (nodes_of all) (bare_in sight.is_rich))
-    (flow-has neat refl (nodes_of all) (nodes-have neat refl refl (λ g. refl) (λ g. refl) all have)
-    (bare_in sight.is_rich) (record { around = tt; plain = r }))
+    (trees-have (pieced_all (all_placed p ts)) fine) (last-have last (all-after-named p ts named)))
+
+pub document-has : (k : Leaves) → k.character space ≡ true → k.character dollar_sign ≡ true
+    → ((g : declared_format.Format) → k.format (of_format g) ≡ true)
+    → (which : Anchors) (sight : Sight) (tree : NumberedTree) → (sight.is_rich ≡ true → k.elements ≡ true)
+    → HaveTrees k (final_trees which sight tree) → HaveBlocks k 0 (document_of_tree which sight tree)
+unfolding document_of_tree document_by
+document-has k spaces dollars formats which sight tree r have =
+    let all : Simples = final_trees which sight tree in
+    parts-blocks k spaces 0 false (flow_all (nodes_of all) (bare_in sight.is_rich))
+    (flow-has k spaces (nodes_of all) (nodes-have k spaces dollars formats all have)
+    0 (bare_in sight.is_rich) (record { around = tt; rich = r; nested = refl }))
+
+neat-document : (which : Anchors) (sight : Sight) (tree : NumberedTree)
+    → is_text_tree tree ≡ true → HaveBlocks leaves 0 (document_of_tree which sight tree)
+neat-document which sight tree e =
+    document-has leaves refl refl any-format which sight tree (λ r. refl) (trees-neat which sight tree e)
+
+neat-list : (is_tight : Bool) (items : Items)
+    → (items_have_no_elements items ≡ true → is_right_list is_tight items ≡ true)
+    → is_neat_list is_tight items ≡ true
+neat-list is_tight items h = test (items_have_no_elements items) (λ e. rw (e, h e) refl) (λ e. rw e refl)
 
 pub leaves-neat : LeavesAreNeat
-leaves-neat which sight tree r e = blocks-hold neat neat-holds (document_of_tree which sight tree)
-    (document-has which sight tree r e)
+leaves-neat which sight tree e =
+    leaves-encoded (document_of_tree which sight tree) ∙ blocks-hold leaves neat-holds neat-list
+    (λ header rows h. h) 0
+    (document_of_tree which sight tree)
+    (neat-document which sight tree e)
 
-pub no-element : NoBlockIsElement
-no-element which sight tree r e =
-    blocks-plain neat (document_of_tree which sight tree) (document-has which sight tree r e)
+pub numbers-fit : NumbersFit
+numbers-fit which sight tree e =
+    blocks-fit leaves 0 (document_of_tree which sight tree) (neat-document which sight tree e)

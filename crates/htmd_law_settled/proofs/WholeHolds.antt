@@ -1,32 +1,21 @@
 -- A line that is whole by types is whole by tests, and has no white space beside breaks.
-use Rattle.std.proofs.Common.{◌≡◌, ℕ, true, false, not, ◌&&◌, List, [], ◌∷◌, ◌++◌, refl, ap, ◌∙◌}
+use Rattle.std.proofs.Common.{◌≡◌, ℕ, Bool, true, false, not, ◌&&◌, List, [], ◌∷◌, refl, sym, ap, ◌∙◌, subst}
 use Rattle.std.specs.Str.{chars}
 use Rattle.std.proofs.lemmas.Bool.{and_from}
-use Rattle.std.proofs.lemmas.Str.{chars-append}
-use Rattle.std.specs.Prelude.{encode_utf8}
+use Rattle.htmd_lexical.specs.Characters.{space}
+use Rattle.htmd_lexical.specs.CharacterClasses.{first_is}
 use Rattle.htmd_lexical.proofs.Cases.{test}
-use Rattle.htmd_document.specs.Documents.{Inline, text, code, formatted, link, line_break, Inlines, no_inlines, inline}
-use Rattle.htmd_shown.specs.Spaces.{is_white}
-use Rattle.htmd_law_returning.specs.WholeLines.{begins_white_text, ends_white_text, begins_white, ends_white, is_gap}
+use Rattle.htmd_document.specs.Documents.{Inline, text, code, formatted, link, line_break, task, Inlines, no_inlines}
+use Rattle.htmd_document.specs.Documents.{inline}
+use Rattle.htmd_law_returning.specs.WholeLines.{ends_white_text, begins_white, ends_white, is_gap}
 use Rattle.htmd_law_returning.specs.WholeLines.{is_apart, is_whole_inside, are_whole_inside, is_whole}
-use Rattle.htmd_law_settled.proofs.LineShapes.{BlackStart, BlackEnd, one-character, character-utf8, end-characters}
+use Rattle.htmd_law_returning.proofs.BoxLemmas.{characters-behind-space}
+use Rattle.htmd_law_settled.proofs.LineShapes.{BlackStart, BlackEnd}
 use Rattle.htmd_law_settled.proofs.LineShapes.{Starts, Ends, Apart, BesideFirst, ShapedInline, Shaped, Whole}
+use Rattle.htmd_law_settled.proofs.BoxShapes.{begins-black, ends-black}
 use Rattle.htmd_law_settled.specs.BareBreaks.{is_bare_inside, has_bare_breaks}
 use Rattle.htmd_law_settled.specs.NeatLeaves.{is_neat_line}
 use Rattle.htmd_law_returning.specs.SettledDocuments.{is_white_at_break}
-
-begins-black : (s : List ℕ) → BlackStart s → begins_white_text (chars s) ≡ false
-begins-black s h =
-    ap begins_white_text (ap chars h.2 ∙ chars-append (encode_utf8 h.0) h.1 (character-utf8 h.0 h.3)
-    ∙ ap (λ (y : List ℕ). y ++ chars h.1) (one-character h.0 h.3)) ∙ h.4
-
-last-character : (cs : List ℕ) (c : ℕ) → ends_white_text (cs ++ c ∷ []) ≡ is_white c
-last-character [] c = refl
-last-character (b ∷ []) c = refl
-last-character (b ∷ d ∷ cs) c = last-character (d ∷ cs) c
-
-ends-black : (s : List ℕ) → BlackEnd s → ends_white_text (chars s) ≡ false
-ends-black s h = ap ends_white_text (end-characters s h) ∙ last-character (chars h.0) h.1 ∙ h.5
 
 starts-hold : (xs : Inlines) → Starts xs → begins_white xs ≡ false
 starts-hold no_inlines h = refl
@@ -62,9 +51,6 @@ mutual
       and_from (is_whole_inside x && is_apart x xs) (are_whole_inside xs)
       (and_from (is_whole_inside x) (is_apart x xs) (inline-holds x h.0) (apart-holds x xs h.1)) (line-holds xs h.2)
 
-whole-holds : (xs : Inlines) → Whole xs → is_whole xs ≡ true
-whole-holds xs h = ends-both xs (line-holds xs h.0) h.1 h.2
-
 -- ---- beside breaks
 
 beside-holds : (x : Inline) (xs : Inlines) → BesideFirst x xs → is_white_at_break x xs ≡ false
@@ -91,5 +77,71 @@ mutual
       (ap not (beside-holds x xs h.3)))
       (line-bare xs h.2)
 
+-- ---- behind the box of a task
+
+line-neat : (xs : Inlines) → Shaped xs → Starts xs → Ends xs → (is_whole xs && has_bare_breaks xs) ≡ true
+line-neat xs h g e =
+    and_from (is_whole xs) (has_bare_breaks xs) (ends-both xs (line-holds xs h) g e) (line-bare xs h)
+
+behind-ends : (x : Inline) (xs : Inlines) → Ends (inline x xs) → Ends xs
+behind-ends x no_inlines h = tt
+behind-ends x (inline y ys) h = h
+
+text-apart : (s : List ℕ) (xs : Inlines) → is_apart (text s) xs ≡ true
+text-apart s no_inlines = refl
+text-apart s (inline y no_inlines) = refl
+text-apart s (inline y (inline z zs)) = test (is_gap y) (λ e. rw e refl) (λ e. rw e refl)
+
+-- without the space
+text-ends : (c : ℕ) (s : List ℕ) → c ≡ space → BlackEnd (c ∷ s) → ends_white_text (chars s) ≡ false
+text-ends c s e h =
+    without (chars s) (sym (ap ends_white_text (characters-behind-space s))
+    ∙ ends-black (space ∷ s) (subst (λ b. BlackEnd (b ∷ s)) e h))
+  where
+    without : (cs : List ℕ) → ends_white_text (space ∷ cs) ≡ false → ends_white_text cs ≡ false
+    without [] e = refl
+    without (d ∷ cs) e = e
+
+line-ends : (c : ℕ) (s : List ℕ) (xs : Inlines) → c ≡ space → Ends (inline (text (c ∷ s)) xs)
+    → ends_white (inline (text s) xs) ≡ false
+line-ends c s no_inlines e h = text-ends c s e h
+line-ends c s (inline y ys) e h = ends-hold (inline y ys) h
+
+text-bare : (c : ℕ) (s : List ℕ) (xs : Inlines) → c ≡ space → BesideFirst (text (c ∷ s)) xs
+    → is_white_at_break (text s) xs ≡ false
+text-bare c s no_inlines e b = refl
+text-bare c s (inline line_break xs) e b = text-ends c s e b
+text-bare c s (inline x xs) e b = refl
+
+text-neat : (c : ℕ) (s : List ℕ) (xs : Inlines) → c ≡ space → Shaped (inline (text (c ∷ s)) xs)
+    → BlackStart s → Ends (inline (text (c ∷ s)) xs)
+    → (is_whole (inline (text s) xs) && has_bare_breaks (inline (text s) xs)) ≡ true
+text-neat c s xs e h g l =
+    rw (
+      text-apart s xs,
+      line-holds xs h.2,
+      begins-black s g,
+      line-ends c s xs e l,
+      text-bare c s xs e h.3,
+      line-bare xs h.2,
+    ) refl
+
+spaced-neat : (c : ℕ) (s : List ℕ) (a b : Bool) → c ≡ space → (a && b) ≡ true
+    → (first_is space (c ∷ s) && a && b) ≡ true
+spaced-neat c s a b e q = rw e q
+
+box-neat : (is_checked : Bool) (xs : Inlines) → Whole (inline (task is_checked) xs)
+    → is_neat_line (inline (task is_checked) xs) ≡ true
+box-neat k no_inlines h = absurd h.3
+box-neat k (inline (text (c ∷ [])) xs) h =
+    spaced-neat c [] (is_whole xs) (has_bare_breaks xs) h.3.0
+    (line-neat xs h.0.2.2 h.3.1 (behind-ends (text (c ∷ [])) xs h.2))
+box-neat k (inline (text (c ∷ d ∷ s)) xs) h =
+    spaced-neat c (d ∷ s) (is_whole (inline (text (d ∷ s)) xs)) (has_bare_breaks (inline (text (d ∷ s)) xs)) h.3.0
+    (text-neat c (d ∷ s) xs h.3.0 h.0.2 h.3.1 h.2)
+box-neat k (inline x xs) h = absurd h.3
+
 pub neat-holds : (xs : Inlines) → Whole xs → is_neat_line xs ≡ true
-neat-holds xs h = and_from (is_whole xs) (has_bare_breaks xs) (whole-holds xs h) (line-bare xs h.0)
+neat-holds no_inlines h = refl
+neat-holds (inline (task d) xs) h = box-neat d xs h
+neat-holds (inline x xs) h = line-neat (inline x xs) h.0 h.1 h.2

@@ -8,7 +8,8 @@ use Rattle.htmd_document.specs.Documents.{Inlines, no_inlines, inline, Block, pa
 use Rattle.htmd_document.specs.Documents.{thematic_break, list, table, element, tags, Blocks, no_blocks, block}
 use Rattle.htmd_document.specs.Documents.{Items, no_items, item}
 
--- the characters of texts and codes in lines, formats, addresses with titles, images, code blocks, and whole lines
+-- the characters of texts and codes in lines, formats, addresses with titles, images, code blocks, and whole lines,
+-- whether lists are tight, the header and rows of tables, and whether there are elements
 pub record Leaves : Type 0 where
   pub character : ℕ → Bool
   pub format : Format → Bool
@@ -16,6 +17,9 @@ pub record Leaves : Type 0 where
   pub image : List ℕ → Option (List ℕ) → List ℕ → Bool
   pub code : Option (List ℕ) → List ℕ → Bool
   pub line : Inlines → Bool
+  pub list : Bool → Items → Bool
+  pub table : List Inlines → List (List Inlines) → Bool
+  pub elements : Bool
 
 module _ (k : Leaves) where
   abbrev pub is_text_of : List ℕ → Bool
@@ -50,9 +54,10 @@ module _ (k : Leaves) where
     is_block_of (code_block language s) = k.code language s
     is_block_of (quote content) = are_blocks_of content
     is_block_of thematic_break = true
-    is_block_of (list start is_tight items) = are_items_of items
-    is_block_of (table alignments header rows) = are_cells_of header && list_all are_cells_of rows
-    is_block_of (element name attributes content) = are_blocks_of content
+    is_block_of (list start is_tight items) = k.list is_tight items && are_items_of items
+    is_block_of (table alignments header rows) =
+        k.table header rows && (are_cells_of header && list_all are_cells_of rows)
+    is_block_of (element name attributes content) = k.elements && are_blocks_of content
     is_block_of (tags s) = true
 
     -- all leaves of these blocks are so

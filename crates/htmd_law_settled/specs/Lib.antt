@@ -4,3 +4,4 @@ pub mod BareBreaks
 pub mod NeatLeaves
 pub mod CommonDocuments
 pub mod PageLaws
+pub mod Rounds

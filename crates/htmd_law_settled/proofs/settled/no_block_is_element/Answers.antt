@@ -1,4 +1,4 @@
-use Rattle.htmd_law_settled.proofs.NeatPages.{no-element}
+use Rattle.htmd_law_settled.proofs.PlainFormats.{no-element}
 use Rattle.htmd_law_settled.proofs.settled.no_block_is_element.Goals as goal
 
 pub returns : goal.returns

@@ -1,0 +1,9 @@
+use Rattle.htmd_law_html5.proofs.StrictPages.{pages_agree}
+use Rattle.htmd_law_html5.proofs.StrictImplied.{texts_agree}
+use Rattle.htmd_law_rendering.proofs.DocumentLemmas.{documents-parsed}
+use Rattle.htmd_law_returning.proofs.ComingBackLemmas.{come-back}
+use Rattle.htmd_law_settled.proofs.PageLemmas.{come-again}
+use Rattle.htmd_law_settled.proofs.pages.all_comes_back_again.Goals as goal
+
+pub returns : goal.returns
+returns c = come-again (come-back (documents-parsed pages_agree texts_agree))
