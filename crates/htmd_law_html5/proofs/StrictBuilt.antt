@@ -11,8 +11,9 @@ use Rattle.htmd_values.specs.ValueTrees.{comment, element}
 use Rattle.htmd_lexical.specs.CharacterClasses.{is_among}
 use Rattle.htmd_grammar.specs.Grammar.{Apart, begins_with_row}
 use Rattle.htmd_grammar.specs.Nesting.{holds_rows, holds_parts, fits_table, is_table, is_tbody}
+use Rattle.htmd_grammar.specs.Nesting.{is_table_part}
 use Rattle.htmd_values.specs.Serialisation.{is_void}
-use Rattle.htmd_html5_tokens.specs.Tokens.{TokenValue, start_tag, end_tag}
+use Rattle.htmd_html5_tokens.specs.Tokens.{TagValue, TokenValue, start_tag, end_tag}
 use Rattle.htmd_lexical.specs.declared.content_model.ContentModel.TheVariants.{Normal}
 use Rattle.htmd_html5_state.specs.Formatting.{after_marker}
 use Rattle.htmd_html5_state.specs.Resetting.{mode_of}
@@ -26,7 +27,7 @@ use Rattle.htmd_html5_state.specs.Insertion.{current, opened}
 use Rattle.htmd_html5_state.specs.State.{StateValue}
 use Rattle.htmd_html5.specs.Feeding.{feed}
 use Rattle.htmd_law_html5.specs.StrictTokens.{content_in, tag_named, SpellsTree, SpellsForest}
-use Rattle.htmd_law_html5.specs.StrictTokens.{SpellsTable, SpellsRows}
+use Rattle.htmd_law_html5.specs.StrictTokens.{SpellsTable, SpellsRows, end_rows}
 use Rattle.htmd_law_html5.specs.StrictTokens.{content_tokens}
 use Rattle.htmd_law_html5.specs.StrictTrees.{is_plain_name, is_plain_element, is_plain_body, is_plain_tree, are_plain}
 use Rattle.htmd_law_html5.specs.StrictTrees.{text_names, are_plain_table, are_plain_rows}
@@ -47,7 +48,7 @@ use Rattle.htmd_law_html5.proofs.StrictModes.{table_part_names, part_tags, secti
 use Rattle.htmd_law_html5.proofs.StrictTables.{opened_as, table_start, section_start, row_start, cell_start}
 use Rattle.htmd_law_html5.proofs.StrictTables.{table_end, section_end, row_end, cell_end, cell_resets}
 use Rattle.htmd_law_html5.proofs.StrictTables.{implied_body, implied_row}
-use Rattle.htmd_law_html5.proofs.StrictTables.{body_table_end, caption_start, caption_resets, caption_end}
+use Rattle.htmd_law_html5.proofs.StrictTables.{body_table_end, caption_start, caption_resets, caption_end, part_leaves}
 use Rattle.htmd_law_html5.proofs.StrictHeld.{FitsTree, FitsForest, Built, ElementBuilt, ForestBuilt, Rows}
 use Rattle.htmd_law_html5.proofs.StrictHeld.{TableBuilt, TreeBuilt, comment_built, entered, fresh, full_built}
 use Rattle.htmd_law_html5.proofs.StrictHeld.{held_built, moded, pre_built, text_alone_built, text_built}
@@ -424,17 +425,6 @@ module _ (z : Bool) where
   table_mode m (in_row q e) = absurd (cc)
   table_mode m (in_flow o w) = absurd (cc)
 
-  -- a tree alone
-  alone_built : (c : List (List ℕ)) (t : ValueTree) (xs : List TokenValue) (s : StateValue)
-      → InContext (codes "table" ∷ c) s
-      → ((m : StateValue) × Built z (codes "table" ∷ c) xs (with_tree (at s) t s.nodes) s m)
-      → (new : StateValue) × (Built z (codes "table" ∷ c) xs (with_forest (at s) (more t none) s.nodes) s new
-      ⊎ Rows z (codes "table" ∷ c) xs (with_forest (at s) (more t none) s.nodes) s new)
-  alone_built c t xs s h first =
-      let r = both_built (codes "table") c t none xs xs [] s h (sym (append-nil xs)) first
-      (nothing_built (codes "table") c [] first.0 refl refl tt first.1.in_context (λ i. absurd (cc))) in
-      (r.0, inl r.1)
-
   -- rows begin with the tag of one
   row_token : (ks : ValueForest) (xs : List TokenValue) → SpellsForest ks xs → begins_with_row ks ≡ true
       → (attributes : List AttributePair) × (slash : Bool) × (ys : List TokenValue)
@@ -555,41 +545,9 @@ module _ (z : Bool) where
         }),
       )
 
-  -- the last tree of a table
-  last_built : (t : ValueTree) → TreeBuilt z t → (c : List (List ℕ)) (xs : List TokenValue) (s : StateValue)
-      → SpellsTree t xs → is_plain_tree t ≡ true → FitsTree (codes "table" ∷ c) t
-      → InContext (codes "table" ∷ c) s
-      → (is_text t ≡ true → last_text s.nodes (at s) ≡ None)
-      → (new : StateValue) × (Built z (codes "table" ∷ c) xs (with_forest (at s) (more t none) s.nodes) s new
-      ⊎ Rows z (codes "table" ∷ c) xs (with_forest (at s) (more t none) s.nodes) s new)
-  last_built t this c xs s k e f h st = alone_built c t xs s h (this (codes "table") c xs s k e f h st)
-
-  rows_built : (n : List ℕ) (attributes : List AttributePair) (children : ValueForest) → ForestBuilt z children
-      → (c : List (List ℕ)) (xs : List TokenValue) (s : StateValue)
-      → SpellsRows (element n attributes children) xs
-      → are_plain children ≡ true → FitsForest (n ∷ (codes "table" ∷ c)) children
-      → InContext (codes "table" ∷ c) s
-      → (new : StateValue) × (Built z (codes "table" ∷ c) xs
-      (with_forest (at s) (more (element n attributes children) none) s.nodes) s new
-      ⊎ Rows z (codes "table" ∷ c) xs (with_forest (at s) (more (element n attributes children) none) s.nodes) s
-      new)
-  rows_built n attributes children ih c xs s k g ff h =
-      let p : List ℕ = codes "table" in
-      let name : n ≡ codes "tbody" = one_name (codes "tbody") n k.3 in
-      let m = table_mode s.mode h.mode in
-      let open_ = bare_rows children ih c k.0 s k.6 k.5 g
-      (subst (λ (y : List ℕ). FitsForest (y ∷ (p ∷ c)) children) name ff) h m in
-      rw (name, k.4, k.2) (elim k.7 [
-        | inl e ↦ rw e (open_alone c (element (codes "tbody") [] children) (k.0 ++ []) s h
-            (subst (λ (ys : List TokenValue). (held : StateValue) × Rows z (p ∷ c) ys
-            (with_tree (at s) (element (codes "tbody") [] children) s.nodes) s held) (sym (append-nil k.0)) open_))
-        | inr e ↦ rw e (alone_built c (element (codes "tbody") [] children)
-            (k.0 ++ (end_tag (tag_named (codes "tbody") [] false) ∷ [])) s h (ended_rows children c k.0 s h m open_))
-      ])
-
-  plain_of_last : (t : ValueTree) → (is_plain_tree t || are_plain_rows t) ≡ true → is_plain_tree t ≡ false
+  plain_of_part : (t : ValueTree) → (is_plain_tree t || are_plain_rows t) ≡ true → is_plain_tree t ≡ false
       → are_plain_rows t ≡ true
-  plain_of_last t e f = rw f at e
+  plain_of_part t e f = rw f at e
 
   rows_not_plain : (n : List ℕ) (attributes : List AttributePair) (children : ValueForest) → is_tbody n ≡ true
       → begins_with_row children ≡ true → is_plain_tree (element n attributes children) ≡ true → ⊥
@@ -600,38 +558,201 @@ module _ (z : Bool) where
       let name : n ≡ codes "tbody" = one_name (codes "tbody") n t in
       let w = rw (name, b) at g in cc
 
-  -- a tree and what is behind it in a table
-  more_built : (c : List (List ℕ)) (t : ValueTree) (ts : ValueForest) (xs ys zs : List TokenValue)
-      (s : StateValue) → InContext (codes "table" ∷ c) s → xs ≡ ys ++ zs
-      → (first : (m : StateValue) × Built z (codes "table" ∷ c) ys (with_tree (at s) t s.nodes) s m)
-      → ((new : StateValue) × (Built z (codes "table" ∷ c) zs (with_forest (at first.0) ts (first.0).nodes) first.0
+  -- what a table holds makes of a state
+  abbrev TableMade : List (List ℕ) → List TokenValue → List NodeValue → StateValue → StateValue → Type 0
+  TableMade c xs nodes s new = Built z (codes "table" ∷ c) xs nodes s new ⊎ Rows z (codes "table" ∷ c) xs nodes s
       new
-      ⊎ Rows z (codes "table" ∷ c) zs (with_forest (at first.0) ts (first.0).nodes) first.0 new))
-      → (new : StateValue) × (Built z (codes "table" ∷ c) xs (with_forest (at s) (more t ts) s.nodes) s new
-      ⊎ Rows z (codes "table" ∷ c) xs (with_forest (at s) (more t ts) s.nodes) s new)
-  more_built c t ts xs ys zs s h e first others = by_others others.1
+
+  -- a tree, and what is behind it in a table
+  both_made : (c : List (List ℕ)) (t : ValueTree) (ts : ValueForest) (xs zs : List TokenValue)
+      (s first : StateValue) → InContext (codes "table" ∷ c) s → first.stack ≡ s.stack → first.mode ≡ s.mode
+      → first.nodes ≡ with_tree (at s) t s.nodes → Fewer first.formatting s.formatting
+      → (others : (new : StateValue) × TableMade c zs (with_forest (at first) ts first.nodes) first new)
+      → Through z s xs others.0
+      → (new : StateValue) × TableMade c xs (with_forest (at s) (more t ts) s.nodes) s new
+  both_made c t ts xs zs s first h stack mode nodes fewer others through = (others.0, by_others others.1)
     where
       p : List ℕ
       p = codes "table"
 
-      by_others : (Built z (codes "table" ∷ c) zs (with_forest (at first.0) ts (first.0).nodes) first.0 others.0
-          ⊎ Rows z (codes "table" ∷ c) zs (with_forest (at first.0) ts (first.0).nodes) first.0 others.0)
-          → (new : StateValue) × (Built z (codes "table" ∷ c) xs (with_forest (at s) (more t ts) s.nodes) s new
-          ⊎ Rows z (codes "table" ∷ c) xs (with_forest (at s) (more t ts) s.nodes) s new)
-      by_others (inl b) = let r = both_built p c t ts xs ys zs s h e first (others.0, b) in (r.0, inl r.1)
-      by_others (inr b) = (
-        others.0,
-        inr (record {
-          through = subst (λ ws. Through z s ws others.0) (sym e) (followed z first.1.through b.through);
-          nodes_are = both_nodes p c t ts s first.0 others.0 h first.1.stack first.1.nodes_are b.nodes_are;
-          in_context = b.in_context;
-          section = b.section;
-          stack = b.stack ∙ ap (λ (stack : List OpenValue).
-              opened b.section (html (name_of_text (codes "tbody"))) ∷ stack) first.1.stack;
-          mode = b.mode;
-          fewer = fewer_trans (others.0).formatting (first.0).formatting s.formatting b.fewer first.1.fewer;
-        }),
-      )
+      by_others : TableMade c zs (with_forest (at first) ts first.nodes) first others.0
+          → TableMade c xs (with_forest (at s) (more t ts) s.nodes) s others.0
+      by_others (inl b) = inl (record {
+        through = through;
+        nodes_are = both_nodes p c t ts s first others.0 h stack nodes b.nodes_are;
+        in_context = b.in_context;
+        stack = b.stack ∙ stack;
+        mode = b.mode ∙ mode;
+        fewer = fewer_trans (others.0).formatting first.formatting s.formatting b.fewer fewer;
+      })
+      by_others (inr b) = inr (record {
+        through = through;
+        nodes_are = both_nodes p c t ts s first others.0 h stack nodes b.nodes_are;
+        in_context = b.in_context;
+        section = b.section;
+        stack = b.stack ∙ ap (λ (stack : List OpenValue).
+            opened b.section (html (name_of_text (codes "tbody"))) ∷ stack) stack;
+        mode = b.mode;
+        fewer = fewer_trans (others.0).formatting first.formatting s.formatting b.fewer fewer;
+      })
+
+  more_built : (c : List (List ℕ)) (t : ValueTree) (ts : ValueForest) (xs ys zs : List TokenValue)
+      (s : StateValue) → InContext (codes "table" ∷ c) s → xs ≡ ys ++ zs
+      → (first : (m : StateValue) × Built z (codes "table" ∷ c) ys (with_tree (at s) t s.nodes) s m)
+      → ((new : StateValue) × TableMade c zs (with_forest (at first.0) ts (first.0).nodes) first.0 new)
+      → (new : StateValue) × TableMade c xs (with_forest (at s) (more t ts) s.nodes) s new
+  more_built c t ts xs ys zs s h e first others =
+      let b = first.1 in
+      let behind : Through z first.0 zs others.0 = elim others.1 [ inl o ↦ o.through | inr o ↦ o.through ] in
+      both_made c t ts xs zs s first.0 h b.stack b.mode b.nodes_are b.fewer others
+      (subst (λ ws. Through z s ws others.0) (sym e) (followed z b.through behind))
+
+  -- ---- rows before a part of the table
+
+  first_nothing : (xs ys : List TokenValue) → [] ≡ xs ++ ys → xs ≡ []
+  first_nothing [] ys e = refl
+  first_nothing (x ∷ xs) ys e = absurd (cc)
+
+  tree_some : (t : ValueTree) → SpellsTree t [] → ⊥
+  tree_some (text u) k = cc
+  tree_some (comment u) k = cc
+  tree_some (element n attributes children) k = let e = k.3 in cc
+  tree_some _ k = k
+
+  rows_some : (ends : Bool) (t : ValueTree) → SpellsRows ends t [] → ⊥
+  rows_some ends (element n attributes children) k =
+      let row = row_token children k.0 k.6 k.5 in
+      let e : k.0 ≡ [] = first_nothing k.0 k.1 k.2 in
+      let f = sym row.3 ∙ e in cc
+  rows_some ends _ k = k
+
+  part_some : (ends : Bool) (t : ValueTree) (xs : List TokenValue) → xs ≡ []
+      → (SpellsTree t xs ⊎ SpellsRows ends t xs) → ⊥
+  part_some ends t xs e (inl k) = tree_some t (subst (SpellsTree t) e k)
+  part_some ends t xs e (inr k) = rows_some ends t (subst (SpellsRows ends t) e k)
+
+  -- trees have tokens
+  table_some : (t : ValueTree) (ts : ValueForest) → SpellsTable (more t ts) [] → ⊥
+  table_some t ts k = part_some (end_rows k.1) t k.0 (first_nothing k.0 k.1 k.2) k.3
+
+  -- the first is the tag of a part
+  part_tag : (t : ValueTree) (ts : ValueForest) (xs : List TokenValue) → SpellsTable (more t ts) xs
+      → end_rows xs ≡ true
+      → (tag : TagValue) × (ys : List TokenValue) × (xs ≡ start_tag tag ∷ ys)
+      × (is_table_part tag.name ≡ true)
+  part_tag t ts [] k e = absurd (table_some t ts k)
+  part_tag t ts (start_tag tag ∷ ys) k e = (tag, ys, refl, e)
+  part_tag t ts (_ ∷ ys) k e = absurd (cc)
+
+  -- it leaves the section of the rows before it
+  rows_left : (c : List (List ℕ)) (t : ValueTree) (ts : ValueForest) (xs ys zs : List TokenValue)
+      (s : StateValue) → InContext (codes "table" ∷ c) s → s.mode ≡ InTable → xs ≡ ys ++ zs → Apart t ts
+      → (first : (m : StateValue) × Rows z (codes "table" ∷ c) ys (with_tree (at s) t s.nodes) s m)
+      → TableBuilt z ts → SpellsTable ts zs → end_rows zs ≡ true → are_plain_table ts ≡ true
+      → FitsForest (codes "table" ∷ c) ts
+      → (new : StateValue) × TableMade c xs (with_forest (at s) (more t ts) s.nodes) s new
+  rows_left c t none xs ys zs s h m e a first tables k ends g f =
+      open_alone c t xs s h (subst (λ ws. (held : StateValue) × Rows z (codes "table" ∷ c) ws
+      (with_tree (at s) t s.nodes) s held) (sym (e ∙ ap (λ ws. ys ++ ws) k ∙ append-nil ys)) first)
+  rows_left c t (more u us) xs ys zs s h m e a first tables k ends g f =
+      let p : List ℕ = codes "table" in
+      let n : List ℕ = codes "tbody" in
+      let held : StateValue = first.0 in
+      let b = first.1 in
+      let left : StateValue = record held { stack = s.stack; mode = InTable } in
+      let st = subst (λ stack. Stands held.nodes (n ∷ (p ∷ c)) stack) b.stack b.in_context.stands in
+      let i : InContext (p ∷ c) left = record {
+        mode = in_table refl refl;
+        resets = λ q. absurd (cc);
+        content = b.in_context.content;
+        no_skip = b.in_context.no_skip;
+        no_foster = b.in_context.no_foster;
+        no_template = b.in_context.no_template;
+        listed = fewer_trans held.formatting s.formatting (entries s.stack) b.fewer h.listed;
+        stands = st.4;
+      } in
+      let others = tables c zs left k g f i (text_apart p c t (more u us) s left h refl b.nodes_are a) in
+      let tag = part_tag u us zs k ends in
+      let x : TokenValue = start_tag tag.0 in
+      let behind : Through z left zs others.0 = elim others.1 [ inl o ↦ o.through | inr o ↦ o.through ] in
+      let run = parts z (subst (λ ws. Through z left ws others.0) tag.2 behind) in
+      let same : feed x held ≡ feed x left =
+      part_leaves n (p ∷ c) held b.in_context b.section s.stack b.stack b.mode p c i (tag.0).name tag.3
+      (tag.0).attributes (tag.0).self_closing in
+      let through : Through z held zs others.0 =
+      subst (λ ws. Through z held ws others.0) (sym tag.2) (with_fed z x held (feed x left) tag.1 others.0
+      (stands_html held.nodes (n ∷ (p ∷ c)) held.stack b.in_context.stands) run.1 same run.2) in
+      both_made c t (more u us) xs zs s left h refl (sym m) b.nodes_are b.fewer others
+      (subst (λ ws. Through z s ws others.0) (sym e) (followed z b.through through))
+
+  -- a tree of a table is there, or its section is still open
+  abbrev PartMade : List (List ℕ) → List TokenValue → Bool → ValueTree → StateValue → StateValue → Type 0
+  PartMade c xs ends t s m =
+      Built z (codes "table" ∷ c) xs (with_tree (at s) t s.nodes) s m
+      ⊎ (Rows z (codes "table" ∷ c) xs (with_tree (at s) t s.nodes) s m × (ends ≡ true))
+
+  rows_made : (n : List ℕ) (attributes : List AttributePair) (children : ValueForest) → ForestBuilt z children
+      → (c : List (List ℕ)) (xs : List TokenValue) (ends : Bool) (s : StateValue)
+      → SpellsRows ends (element n attributes children) xs
+      → are_plain children ≡ true → FitsForest (n ∷ (codes "table" ∷ c)) children
+      → InContext (codes "table" ∷ c) s
+      → (m : StateValue) × PartMade c xs ends (element n attributes children) s m
+  rows_made n attributes children ih c xs ends s k g ff h =
+      let p : List ℕ = codes "table" in
+      let name : n ≡ codes "tbody" = one_name (codes "tbody") n k.3 in
+      let m = table_mode s.mode h.mode in
+      let open_ = bare_rows children ih c k.0 s k.6 k.5 g
+      (subst (λ (y : List ℕ). FitsForest (y ∷ (p ∷ c)) children) name ff) h m in
+      rw (name, k.4, k.2) (elim k.7 [
+        | inl e ↦ rw e.0 (let r = subst (λ (ys : List TokenValue). (held : StateValue) × Rows z (p ∷ c) ys
+            (with_tree (at s) (element (codes "tbody") [] children) s.nodes) s held) (sym (append-nil k.0)) open_ in
+            (r.0, inr (r.1, e.1)))
+        | inr e ↦ rw e (let r = ended_rows children c k.0 s h m open_ in (r.0, inl r.1))
+      ])
+
+  element_part : (n : List ℕ) (attributes : List AttributePair) (children : ValueForest) → ForestBuilt z children
+      → TableBuilt z children → (c : List (List ℕ)) (xs : List TokenValue) (ends : Bool) (s : StateValue)
+      → (SpellsTree (element n attributes children) xs ⊎ SpellsRows ends (element n attributes children) xs)
+      → (is_plain_tree (element n attributes children) || are_plain_rows (element n attributes children)) ≡ true
+      → FitsTree (codes "table" ∷ c) (element n attributes children) → InContext (codes "table" ∷ c) s
+      → (m : StateValue) × PartMade c xs ends (element n attributes children) s m
+  element_part n attributes children ih tables c xs ends s (inl k) e f h =
+      test (is_plain_tree (element n attributes children))
+      (λ w. let inner = if is_table n then are_plain_table children else are_plain children in
+      let g = and_parts (is_plain_element n || is_plain_body n children) inner w in
+      let r = element_built n attributes children ih tables (codes "table") c xs s k g.0 g.1 f h in (r.0, inl r.1))
+      (λ w. let g = and_parts (is_tbody n && begins_with_row children) (are_plain children)
+      (plain_of_part (element n attributes children) e w) in
+      let r = tagged_rows n attributes children ih c xs s k (and_parts (is_tbody n) (begins_with_row children) g.0).0
+      g.1 f.1 h (table_mode s.mode h.mode) in (r.0, inl r.1))
+  element_part n attributes children ih tables c xs ends s (inr k) e f h =
+      test (is_plain_tree (element n attributes children))
+      (λ w. absurd (rows_not_plain n attributes children k.3 k.5 w))
+      (λ w. let g = and_parts (is_tbody n && begins_with_row children) (are_plain children)
+      (plain_of_part (element n attributes children) e w) in
+      rows_made n attributes children ih c xs ends s k g.1 f.1 h)
+
+  -- a text or a comment
+  leaf_part : (t : ValueTree) → TreeBuilt z t → (c : List (List ℕ)) (xs : List TokenValue) (ends : Bool)
+      (s : StateValue) → SpellsTree t xs → is_plain_tree t ≡ true → FitsTree (codes "table" ∷ c) t
+      → InContext (codes "table" ∷ c) s → (is_text t ≡ true → last_text s.nodes (at s) ≡ None)
+      → (m : StateValue) × PartMade c xs ends t s m
+  leaf_part t this c xs ends s k e f h st =
+      let r = this (codes "table") c xs s k e f h st in (r.0, inl r.1)
+
+  table_next : (t : ValueTree) (ts : ValueForest) (c : List (List ℕ)) (xs : List TokenValue) (s : StateValue)
+      (k : SpellsTable (more t ts) xs) → TableBuilt z ts → are_plain_table ts ≡ true
+      → FitsForest (codes "table" ∷ c) (more t ts) → InContext (codes "table" ∷ c) s
+      → ((m : StateValue) × PartMade c k.0 (end_rows k.1) t s m)
+      → (new : StateValue) × TableMade c xs (with_forest (at s) (more t ts) s.nodes) s new
+  table_next t ts c xs s k tables g f h first =
+      elim first.1 [
+        | inl b ↦ more_built c t ts xs k.0 k.1 s h k.2 (first.0, b)
+            (tables c k.1 first.0 k.4 g f.2 b.in_context
+            (text_apart (codes "table") c t ts s first.0 h b.stack b.nodes_are f.0))
+        | inr b ↦ rows_left c t ts xs k.0 k.1 s h (table_mode s.mode h.mode) k.2 f.0 (first.0, b.0) tables k.4 b.1 g
+            f.2
+      ]
 
   mutual
     tree_built : (t : ValueTree) → TreeBuilt z t
@@ -643,38 +764,26 @@ module _ (z : Bool) where
         element_built n attributes children (forest_built children) (table_forest_built children) p c xs s k g.0 g.1 f h
     tree_built _ p c xs s k e f h st = absurd k
 
+    part_made : (t : ValueTree) (c : List (List ℕ)) (xs : List TokenValue) (ends : Bool) (s : StateValue)
+        → (SpellsTree t xs ⊎ SpellsRows ends t xs) → (is_plain_tree t || are_plain_rows t) ≡ true
+        → FitsTree (codes "table" ∷ c) t → InContext (codes "table" ∷ c) s
+        → (is_text t ≡ true → last_text s.nodes (at s) ≡ None) → (m : StateValue) × PartMade c xs ends t s m
+    part_made (text u) c xs ends s (inl k) e f h st = leaf_part (text u) (text_built z u) c xs ends s k refl f h st
+    part_made (comment u) c xs ends s (inl k) e f h st =
+        leaf_part (comment u) (comment_built z u) c xs ends s k refl f h st
+    part_made (text u) c xs ends s (inr k) e f h st = absurd k
+    part_made (comment u) c xs ends s (inr k) e f h st = absurd k
+    part_made (element n attributes children) c xs ends s k e f h st =
+        element_part n attributes children (forest_built children) (table_forest_built children) c xs ends s k e f h
+    part_made _ c xs ends s k e f h st = absurd (elim k [ inl x ↦ x | inr x ↦ x ])
+
     table_forest_built : (ts : ValueForest) → TableBuilt z ts
     table_forest_built none c xs s k e f h st =
         let r = nothing_built (codes "table") c xs s k refl tt h st in (r.0, inl r.1)
-    table_forest_built (more (text u) none) c xs s (inl k) e f h st =
-        last_built (text u) (text_built z u) c xs s k refl f.1 h st
-    table_forest_built (more (comment u) none) c xs s (inl k) e f h st =
-        last_built (comment u) (comment_built z u) c xs s k refl f.1 h st
-    table_forest_built (more (text u) none) c xs s (inr k) e f h st = absurd k
-    table_forest_built (more (comment u) none) c xs s (inr k) e f h st = absurd k
-    table_forest_built (more (element n attributes children) none) c xs s (inl k) e f h st =
-        let t = element n attributes children in
-        test (is_plain_tree t)
-        (λ w. let inner = if is_table n then are_plain_table children else are_plain children in
-        let g = and_parts (is_plain_element n || is_plain_body n children) inner w in
-        alone_built c t xs s h (element_built n attributes children (forest_built children)
-        (table_forest_built children) (codes "table") c xs s k g.0 g.1 f.1 h))
-        (λ w. let g = and_parts (is_tbody n && begins_with_row children) (are_plain children) (plain_of_last t e w) in
-        alone_built c t xs s h (tagged_rows n attributes children (forest_built children) c xs s k
-        (and_parts (is_tbody n) (begins_with_row children) g.0).0 g.1 (f.1).1 h (table_mode s.mode h.mode)))
-    table_forest_built (more (element n attributes children) none) c xs s (inr k) e f h st =
-        let t = element n attributes children in
-        test (is_plain_tree t)
-        (λ w. absurd (rows_not_plain n attributes children k.3 k.5 w))
-        (λ w. let g = and_parts (is_tbody n && begins_with_row children) (are_plain children) (plain_of_last t e w) in
-        rows_built n attributes children (forest_built children) c xs s k g.1 (f.1).1 h)
-    table_forest_built (more _ none) c xs s k e f h st = absurd (elim k [ inl x ↦ x | inr x ↦ x ])
-    table_forest_built (more t (more u us)) c xs s k e f h st =
-        let g = and_parts (is_plain_tree t) (are_plain_table (more u us)) e in
-        let first = tree_built t (codes "table") c k.0 s k.3 g.0 f.1 h st in
-        more_built c t (more u us) xs k.0 k.1 s h k.2 first
-        (table_forest_built (more u us) c k.1 first.0 k.4 g.1 f.2 first.1.in_context
-        (text_apart (codes "table") c t (more u us) s first.0 h first.1.stack first.1.nodes_are f.0))
+    table_forest_built (more t ts) c xs s k e f h st =
+        let g = and_parts (is_plain_tree t || are_plain_rows t) (are_plain_table ts) e in
+        table_next t ts c xs s k (table_forest_built ts) g.1 f h
+        (part_made t c k.0 (end_rows k.1) s k.3 g.0 f.1 h st)
 
     pub forest_built : (ts : ValueForest) → ForestBuilt z ts
     forest_built none p c xs s k e f h st = nothing_built p c xs s k e f h st

@@ -103,7 +103,7 @@ a_plain_paragraph : are_plain (more (trees.element (codes "p") [] (more (trees.t
 unfolding is_void
 a_plain_paragraph = refl
 
--- a `tbody` that begins with a row may have no tags, and stands last in a table
+-- a `tbody` that begins with a row may have no tags in a table, and stands anywhere there
 rows_in_a_table : are_plain (more (trees.element (codes "table") [] (more (trees.element (codes "tbody") []
     (more (trees.element (codes "tr") [] none) none)) none)) none) ≡ true
 unfolding is_void
@@ -111,7 +111,7 @@ rows_in_a_table = refl
 
 rows_before_a_caption : are_plain (more (trees.element (codes "table") [] (more (trees.element (codes "tbody") []
     (more (trees.element (codes "tr") [] none) none)) (more (trees.element (codes "caption") [] none) none))) none)
-    ≡ false
+    ≡ true
 unfolding is_void
 rows_before_a_caption = refl
 
@@ -149,6 +149,16 @@ bare_rows : html5_document false (codes "<table><caption>a</caption><tr><td>b</t
     (more (trees.text (codes "b")) none)) none)) none)) none))) none))
 unfolding html5_document block_rule formatting_rule phrasing_rule text_end_rule
 bare_rows = refl
+
+-- a caption ends the section of the rows before it
+rows_around_a_caption : html5_document false (codes "<table><tr></tr>\n<caption>a</caption><tr></tr></table>")
+    ≡ document_items (skeleton (more (trees.element (codes "table") []
+    (more (trees.element (codes "tbody") [] (more (trees.element (codes "tr") [] none)
+    (more (trees.text (codes "\n")) none)))
+    (more (trees.element (codes "caption") [] (more (trees.text (codes "a")) none))
+    (more (trees.element (codes "tbody") [] (more (trees.element (codes "tr") [] none) none)) none)))) none))
+unfolding html5_document block_rule formatting_rule phrasing_rule text_end_rule
+rows_around_a_caption = refl
 
 -- a table in a list item, with lines between its parts
 a_table_in_a_list : html5_document false

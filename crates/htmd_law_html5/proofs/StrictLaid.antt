@@ -21,7 +21,7 @@ use Rattle.htmd_html5.specs.Layout.{next_text, next_texts, after_next_texts, par
 use Rattle.htmd_html5.specs.Layout.{Layout}
 use Rattle.htmd_html5.specs.Layout.{is_deepest, with_kind_of, without_node, put_node, layout_within}
 use Rattle.htmd_law_html5.specs.StrictTrees.{is_plain_element, is_plain_body, is_plain_tree, are_plain}
-use Rattle.htmd_law_html5.specs.StrictTrees.{are_plain_table}
+use Rattle.htmd_law_html5.specs.StrictTrees.{are_plain_table, are_plain_rows}
 use Rattle.htmd_law_html5.proofs.StrictNodes.{is_text, numbers, node, tree_nodes, forest_nodes, tree_count}
 use Rattle.htmd_law_html5.proofs.StrictNodes.{kind_after}
 use Rattle.htmd_law_html5.proofs.StrictNodes.{children_after}
@@ -99,25 +99,25 @@ mutual
       (λ t. plain_is_content children (rw t at g))
   plain_tree_is_content _ e = cc
 
-  plain_table_is_content : (ts : ValueForest) → are_plain_table ts ≡ true → are_content ts ≡ true
-  plain_table_is_content none e = refl
-  plain_table_is_content (more (element n attributes children) none) e =
+  plain_part_is_content : (t : ValueTree) → (is_plain_tree t || are_plain_rows t) ≡ true
+      → is_content_tree t ≡ true
+  plain_part_is_content (element n attributes children) e =
       let inner = if is_table n then are_plain_table children else are_plain children in
-      let whole : are_content children ≡ true =
       test (is_plain_tree (element n attributes children))
       (λ t. let g = (and_parts (is_plain_element n || is_plain_body n children) inner t).1 in
       test (is_table n) (λ q. plain_table_is_content children (rw q at g))
       (λ q. plain_is_content children (rw q at g)))
       (λ t. let r = rw t at e in
-      plain_is_content children (and_parts (is_tbody n && begins_with_row children) (are_plain children) r).1) in
-      and_from (are_content children) true whole refl
-  plain_table_is_content (more (document children) none) e = absurd (cc)
-  plain_table_is_content (more doctype none) e = absurd (cc)
-  plain_table_is_content (more _ none) e = refl
-  plain_table_is_content (more t (more u us)) e =
-      let k = and_parts (is_plain_tree t) (are_plain_table (more u us)) e in
-      and_from (is_content_tree t) (are_content (more u us)) (plain_tree_is_content t k.0)
-      (plain_table_is_content (more u us) k.1)
+      plain_is_content children (and_parts (is_tbody n && begins_with_row children) (are_plain children) r).1)
+  plain_part_is_content (document children) e = absurd (cc)
+  plain_part_is_content doctype e = absurd (cc)
+  plain_part_is_content _ e = refl
+
+  plain_table_is_content : (ts : ValueForest) → are_plain_table ts ≡ true → are_content ts ≡ true
+  plain_table_is_content none e = refl
+  plain_table_is_content (more t ts) e =
+      let k = and_parts (is_plain_tree t || are_plain_rows t) (are_plain_table ts) e in
+      and_from (is_content_tree t) (are_content ts) (plain_part_is_content t k.0) (plain_table_is_content ts k.1)
 
   pub plain_is_content : (ts : ValueForest) → are_plain ts ≡ true → are_content ts ≡ true
   plain_is_content none e = refl

@@ -35,9 +35,9 @@ use Rattle.htmd_html5.specs.Html5Documents.{next_read, after_token, read_within,
 use Rattle.htmd_html5.specs.Layout.{coming, Layout, document_of, layout_within}
 use Rattle.htmd_law_html5.specs.StrictReferences.{IsUnambiguous}
 use Rattle.htmd_law_html5.specs.StrictTokens.{content_after, tag_named, is_simple_tree, is_simple}
-use Rattle.htmd_law_html5.specs.StrictTokens.{is_simple_table, may_be_implied}
+use Rattle.htmd_law_html5.specs.StrictTokens.{is_simple_table, is_simple_body, may_be_implied}
 use Rattle.htmd_law_html5.specs.StrictTrees.{is_plain_element, is_plain_body, is_plain_tree, are_plain, text_names}
-use Rattle.htmd_law_html5.specs.StrictTrees.{are_plain_table, PlainPagesAgree}
+use Rattle.htmd_law_html5.specs.StrictTrees.{are_plain_table, are_plain_rows, PlainPagesAgree}
 use Rattle.htmd_law_html5.proofs.StrictCuts.{lacks_cut}
 use Rattle.htmd_law_html5.proofs.StrictPlainTexts.{plain_text, content_lacks}
 use Rattle.htmd_law_html5.proofs.StrictTokenCuts.{read, lines_same}
@@ -70,9 +70,9 @@ mutual
       (λ t. rw (a.0, a.1, t, plain_is_simple children (rw t at g.1)) refl)
   plain_tree_is_simple _ e = refl
 
-  plain_table_is_simple : (ts : ValueForest) → are_plain_table ts ≡ true → is_simple_table ts ≡ true
-  plain_table_is_simple none e = refl
-  plain_table_is_simple (more (element n attributes children) none) e =
+  plain_part_is_simple : (t : ValueTree) → (is_plain_tree t || are_plain_rows t) ≡ true
+      → (is_simple_tree t || is_simple_body t) ≡ true
+  plain_part_is_simple (element n attributes children) e =
       test (is_plain_tree (element n attributes children))
       (λ t. let inner = if is_table n then are_plain_table children else are_plain children in
       let g = and_parts (is_plain_element n || is_plain_body n children) inner t in
@@ -85,11 +85,14 @@ mutual
       or_right (is_simple_tree (element n attributes children))
       (may_be_implied n children && is_simple children)
       (and_from (may_be_implied n children) (is_simple children) g.0 (plain_is_simple children g.1)))
-  plain_table_is_simple (more _ none) e = refl
-  plain_table_is_simple (more t (more u us)) e =
-      let k = and_parts (is_plain_tree t) (are_plain_table (more u us)) e in
-      and_from (is_simple_tree t) (is_simple_table (more u us)) (plain_tree_is_simple t k.0)
-      (plain_table_is_simple (more u us) k.1)
+  plain_part_is_simple _ e = refl
+
+  plain_table_is_simple : (ts : ValueForest) → are_plain_table ts ≡ true → is_simple_table ts ≡ true
+  plain_table_is_simple none e = refl
+  plain_table_is_simple (more t ts) e =
+      let k = and_parts (is_plain_tree t || are_plain_rows t) (are_plain_table ts) e in
+      and_from (is_simple_tree t || is_simple_body t) (is_simple_table ts) (plain_part_is_simple t k.0)
+      (plain_table_is_simple ts k.1)
 
   pub plain_is_simple : (ts : ValueForest) → are_plain ts ≡ true → is_simple ts ≡ true
   plain_is_simple none e = refl

@@ -2,7 +2,7 @@
 use Rattle.std.proofs.Common.{◌≡◌, ◌≢◌, ℕ, Bool, true, false, not, List, [], ◌∷◌, ◌++◌, length, drop, Some, refl}
 use Rattle.std.proofs.Common.{sym, ap, ◌∙◌, arith, inl, inr, codes, subst, append_assoc}
 use Rattle.std.specs.Bool.{MatchBool}
-use Rattle.std.specs.Prelude.{◌==◌, ◌⊎◌, if◌then◌else◌}
+use Rattle.std.specs.Prelude.{◌==◌, ◌⊎◌, ◌||◌, if◌then◌else◌}
 use Rattle.std.proofs.lemmas.Bool.{and_parts, not-true, eqb-true}
 use Rattle.std.proofs.lemmas.List.{append-nil}
 use Rattle.htmd_lexical.proofs.Cases.{test}
@@ -11,7 +11,8 @@ use Rattle.htmd_values.specs.ValueTrees.{ValueTree, ValueForest, none, more, doc
 use Rattle.htmd_values.specs.ValueTrees.{comment, element}
 use Rattle.htmd_lexical.specs.CharacterClasses.{first_is, lacks, up_to}
 use Rattle.htmd_grammar.specs.Grammar.{ReadsForest, ReadsTree, begins_with_row, may_end_rows, reads}
-use Rattle.htmd_grammar.specs.Nesting.{Context, is_outside, is_table, is_tbody}
+use Rattle.htmd_grammar.specs.Grammar.{tag_name_at}
+use Rattle.htmd_grammar.specs.Nesting.{Context, is_outside, is_table, is_tbody, is_table_part}
 use Rattle.htmd_grammar.specs.RawContent.{holds_text_alone, ends_text, begins_markup, drops_line_feed, content_of}
 use Rattle.htmd_grammar.specs.Rules.{named_characters, project}
 use Rattle.htmd_grammar.specs.References.{decode, after_line_feed}
@@ -19,18 +20,20 @@ use Rattle.htmd_values.specs.Serialisation.{is_void}
 use Rattle.htmd_grammar.specs.Tags.{IsStartTag, IsEndTag}
 use Rattle.htmd_grammar.specs.HtmlDocuments.{above_body, below_body}
 use Rattle.htmd_grammar.proofs.NestingLemmas.{allowed_parts, one_name}
-use Rattle.htmd_grammar.proofs.Completeness.{end_tag_stops}
-use Rattle.htmd_grammar.proofs.TreeTexts.{IsTextTree}
-use Rattle.htmd_html5_tokens.specs.Tokens.{TokenValue, start_tag, end_tag}
+use Rattle.htmd_grammar.proofs.Completeness.{end_tag_stops, decoded_full}
+use Rattle.htmd_grammar.proofs.TextLemmas.{Stops, no_tag, run_not_stop}
+use Rattle.htmd_grammar.proofs.TreeTexts.{Inside, IsTextTree, row_start, stops_after}
+use Rattle.htmd_html5_tokens.specs.Tokens.{TagValue, TokenValue, start_tag, end_tag, Read}
 use Rattle.htmd_html5_tokens.specs.NextToken.{next_token}
+use Rattle.htmd_lexical.specs.declared.content_model.ContentModel.{ContentModel}
 use Rattle.htmd_lexical.specs.declared.content_model.ContentModel.TheVariants.{Normal, Raw}
 use Rattle.htmd_lexical.specs.declared.content_model.RawElement.{RawElement}
-use Rattle.htmd_grammar.proofs.FrontsLemmas.{content_plain}
+use Rattle.htmd_grammar.proofs.FrontsLemmas.{content_plain, tag_starts}
 use Rattle.htmd_law_html5.specs.StrictReferences.{outside, in_tag, IsUnambiguousAt, IsUnambiguous}
 use Rattle.htmd_law_html5.specs.StrictTokens.{content_in, tag_named, SpellsTree, SpellsForest, with_text_token}
 use Rattle.htmd_law_html5.specs.StrictTokens.{after_feed, content_tokens, is_set_aside, is_simple_tree, is_simple}
 use Rattle.htmd_law_html5.specs.StrictTokens.{SpellsTable, SpellsRows, may_be_implied, is_simple_table}
-use Rattle.htmd_law_html5.specs.StrictTokens.{is_simple_body}
+use Rattle.htmd_law_html5.specs.StrictTokens.{is_simple_body, end_rows}
 use Rattle.htmd_law_html5.specs.StrictTokens.{TokensAgree}
 use Rattle.htmd_law_html5.proofs.StrictCuts.{unambiguous_back, unambiguous_in_tag, unambiguous_past}
 use Rattle.htmd_law_html5.proofs.StrictCuts.{unambiguous_inside, unambiguous_outside, content_place}
@@ -44,7 +47,8 @@ use Rattle.htmd_law_html5.proofs.StrictSteps.{Run, here, onward, joined, from_co
 use Rattle.htmd_law_html5.proofs.StrictSteps.{shorter, one_token, TreeRun, ForestRun, TableRun, tag_filled}
 use Rattle.htmd_law_html5.proofs.StrictSteps.{end_filled}
 use Rattle.htmd_law_html5.proofs.StrictSteps.{plain_text, text_run, comment_run, simple_parts, text_ending}
-use Rattle.htmd_law_html5.proofs.StrictSteps.{not_implied, unambiguous_after}
+use Rattle.htmd_law_html5.proofs.StrictSteps.{not_implied, unambiguous_after, unambiguous_part, section_plain}
+use Rattle.htmd_law_html5.proofs.StrictSteps.{part_markup}
 use Rattle.htmd_html5_tokens.specs.Tokens as tokens
 use Rattle.htmd_html5_tokens.specs.NextToken as next
 
@@ -52,11 +56,23 @@ table_plain : (z : Bool) → holds_text_alone z (codes "table") ≡ false
 table_plain true = refl
 table_plain false = refl
 
-section_plain : (z : Bool) → holds_text_alone z (codes "tbody") ≡ false
-section_plain true = refl
-section_plain false = refl
+-- a tree in a table, which may be rows without the start tag of their `tbody`
+abbrev SpellsPart : Bool → ValueTree → List TokenValue → Type 0
+SpellsPart ends t xs = SpellsTree t xs ⊎ SpellsRows ends t xs
+
+-- the first token is the start tag of a part of a table
+abbrev BeginsPart : List ℕ → Type 0
+BeginsPart s = (tag : TagValue) × (rest : List ℕ) × (next_token Normal false s ≡ read (start_tag tag) rest)
+    × (is_table_part tag.name ≡ true)
 
 module _ (z : Bool) where
+  abbrev PartRun : ValueTree → Type 0
+  PartRun t = (p : List ℕ) (c : Context) (last : Bool) (s rest : List ℕ)
+      → ReadsTree (project z) (p ∷ c) last t s → holds_text_alone z p ≡ false
+      → (is_simple_tree t || is_simple_body t) ≡ true → IsUnambiguous (s ++ rest)
+      → (IsTextTree t ≡ true → Ending rest) → (last ≡ true → Ending rest)
+      → Made z (SpellsPart last t) s rest
+
   -- ---- elements
 
   -- the tokens of its content
@@ -361,13 +377,12 @@ module _ (z : Bool) where
         | inr w ↦ absurd (not_implied z n ks parts.1 w.3 w.5)
       ]
 
-  -- the rows at the end of a table, with the tags of their `tbody` or without
+  -- rows in a table, with the tags of their `tbody` or without
   body_run : (attributes : List AttributePair) (ks : ValueForest) → ForestRun z ks → Tail ks → TableRun z ks
       → (p : List ℕ) (c : Context) (last : Bool) (s rest : List ℕ)
       → ReadsTree (project z) (p ∷ c) last (element (codes "tbody") attributes ks) s → is_simple ks ≡ true
-      → IsUnambiguous (s ++ rest) → Ending rest
-      → Made z (λ xs. SpellsTree (element (codes "tbody") attributes ks) xs
-      ⊎ SpellsRows (element (codes "tbody") attributes ks) xs) s rest
+      → IsUnambiguous (s ++ rest) → (last ≡ true → Ending rest)
+      → Made z (SpellsPart last (element (codes "tbody") attributes ks)) s rest
   unfolding is_void
   body_run attributes ks ih tail tables p c last s rest h o k st =
       elim h.2 [
@@ -395,9 +410,9 @@ module _ (z : Bool) where
               | inr g ↦
                   let i2 : IsUnambiguous (w.0 ++ rest) =
                   subst (λ (y : List ℕ). IsUnambiguous (w.0 ++ (y ++ rest))) g.0 i in
-                  let inside = ih (codes "tbody") (p ∷ c) true w.0 rest w.6 (section_plain z) o i2 st in (
+                  let inside = ih (codes "tbody") (p ∷ c) true w.0 rest w.6 (section_plain z) o i2 (st g.1) in (
                     inside.0,
-                    inr (inside.0, [], sym (append-nil inside.0), refl, w.4, w.5, inside.1, inl refl),
+                    inr (inside.0, [], sym (append-nil inside.0), refl, w.4, w.5, inside.1, inl (refl, g.1)),
                     from_text z (q ∙ ap (λ (y : List ℕ). w.0 ++ (y ++ rest)) g.0) inside.2,
                   )
             ]
@@ -422,62 +437,122 @@ module _ (z : Bool) where
 
   -- ---- what a table holds
 
-  -- the last tree, with nothing behind it
-  last_run : (t : ValueTree) (Spells : List TokenValue → Type 0) (p : List ℕ) (c : Context) (last : Bool)
-      (s rest : List ℕ) (h : ReadsForest (project z) (p ∷ c) last (more t none) s)
-      → Made z Spells h.0 (h.1 ++ rest)
-      → Made z Spells s rest
-  last_run t Spells p c last s rest h r =
-      let e : s ≡ h.0 = h.2 ∙ ap (λ (y : List ℕ). h.0 ++ y) h.5 ∙ append-nil h.0 in
-      subst (λ (y : List ℕ). Made z Spells y rest) (sym e)
-      (subst (λ (y : List ℕ). Made z Spells h.0 (y ++ rest)) h.5 r)
+  element_part : (n : List ℕ) (attributes : List AttributePair) (ks : ValueForest) → ForestRun z ks → Tail ks
+      → TableRun z ks → PartRun (element n attributes ks)
+  element_part n attributes ks ih tail tables p c last s rest h e o k st ends =
+      test (is_simple_tree (element n attributes ks))
+      (λ t. let r = element_run n attributes ks ih tail tables p c last s rest h e t k st in (r.0, inl r.1, r.2))
+      (λ t. let b = and_parts (may_be_implied n ks) (is_simple ks) (rw t at o) in
+      let name : n ≡ codes "tbody" =
+      one_name (codes "tbody") n (and_parts (is_tbody n) (begins_with_row ks) b.0).0 in
+      subst (λ (m : List ℕ). Made z (SpellsPart last (element m attributes ks)) s rest) (sym name)
+      (body_run attributes ks ih tail tables p c last s rest
+      (subst (λ (m : List ℕ). ReadsTree (project z) (p ∷ c) last (element m attributes ks) s) name h) b.1 k ends))
 
-  -- trees before the last one
-  table_next : (t : ValueTree) (u : ValueTree) (us : ValueForest) → TreeRun z t → TableRun z (more u us)
-      → TableRun z (more t (more u us))
-  table_next t u us one all p c last s rest h e o k st =
-      let ts = more u us in
-      let b = and_parts (is_simple_tree t) (is_simple_table ts) o in
+  -- a text or a comment
+  leaf_part : (t : ValueTree) (last : Bool) (s rest : List ℕ) → Made z (SpellsTree t) s rest
+      → Made z (SpellsPart last t) s rest
+  leaf_part t last s rest r = (r.0, inl r.1, r.2)
+
+  -- the tag of a part of the table is a token
+  part_token : (u : ValueTree) (us : ValueForest) (p : List ℕ) (c : Context) (l : Bool) (s rest : List ℕ)
+      → ReadsForest (project z) (p ∷ c) l (more u us) s → holds_text_alone z p ≡ false
+      → is_table_part (tag_name_at s) ≡ true → IsUnambiguousAt in_tag (s ++ rest) → BeginsPart (s ++ rest)
+  part_token (text u) us p c l s rest h e q k =
+      let st : Stops z p h.1 = subst (Stops z p) (append-nil h.1)
+      (stops_after (project z) p (text u) us c l h.1 [] h.3 h.5 (λ _. inl refl) refl) in
+      let m = run_not_stop z p h.0 h.1 (decoded_full (project z) [] p h.0 u (h.4).2 (h.4).0) (h.4).1 st in
+      let none_there : begins_markup (h.0 ++ h.1) ≡ false = rw e at m in
+      let there : is_table_part (tag_name_at (h.0 ++ h.1)) ≡ true =
+      ap (λ (y : List ℕ). is_table_part (tag_name_at y)) (sym h.2) ∙ q in
+      absurd (let w = rw ((no_tag (h.0 ++ h.1) none_there).0) at there in cc)
+  part_token (comment u) us p c l s rest h e q k =
+      let there : is_table_part (tag_name_at (h.0 ++ h.1)) ≡ true =
+      ap (λ (y : List ℕ). is_table_part (tag_name_at y)) (sym h.2) ∙ q in
+      absurd (let w = rw ((h.4).0).2 at there in cc)
+  part_token (element n attributes ks) us p c l s rest h e q k = go (h.4).2
+    where
+      named : (tag x m : List ℕ) (other : List AttributePair) → IsStartTag named_characters tag m other
+          → s ≡ tag ++ x
+          → is_table_part m ≡ true
+      named tag x m other start f =
+          ap is_table_part (sym (ap tag_name_at f ∙ tag_starts (project z) [] tag m x other start)) ∙ q
+
+      go : Inside (project z) (p ∷ c) (may_end_rows l us h.1) n attributes ks h.0 → BeginsPart (s ++ rest)
+      go (inl w) =
+          let x : List ℕ = (w.1 ++ w.2) ++ h.1 in
+          let f : s ≡ w.0 ++ x =
+          h.2 ∙ (ap (λ (y : List ℕ). y ++ h.1) w.3 ∙ append_assoc w.0 (w.1 ++ w.2) h.1) in
+          let whole_ : s ++ rest ≡ w.0 ++ (x ++ rest) =
+          ap (λ (y : List ℕ). y ++ rest) f ∙ append_assoc w.0 x rest in
+          let r = start_read w.0 n (x ++ rest) attributes w.4 (subst (IsUnambiguousAt in_tag) whole_ k) in (
+            tag_named n attributes r.0,
+            x ++ rest,
+            ap (next_token Normal false) whole_ ∙ r.1,
+            named w.0 x n attributes
+                w.4 f,
+          )
+      go (inr w) =
+          let r = row_start (project z) ks (n ∷ p ∷ c) true w.0 w.6 w.5 in
+          let f : s ≡ r.0 ++ ((r.1 ++ w.1) ++ h.1) =
+          h.2 ∙ (ap (λ (y : List ℕ). y ++ h.1)
+          (w.2 ∙ (ap (λ (y : List ℕ). y ++ w.1) r.3 ∙ append_assoc r.0 r.1 w.1))
+          ∙ append_assoc r.0 (r.1 ++ w.1) h.1) in
+          absurd (let w = named r.0 ((r.1 ++ w.1) ++ h.1) (codes "tr") r.2 r.4 f in cc)
+  part_token _ us p c l s rest h e q k = absurd (h.4)
+
+  token_first : {s left : List ℕ} {after : ContentModel} {xs : List TokenValue} → Run z Normal s xs after left
+      → BeginsPart s → end_rows xs ≡ true
+  token_first here b = refl
+  token_first (onward token rest e f l r) b =
+      let same : token ≡ start_tag b.0 = ap (λ (r : Read). r.token) (sym e ∙ b.2) in rw (same, b.3) refl
+
+  -- where a section may end without its end tag, so do its tokens
+  rows_end : (ts : ValueForest) (p : List ℕ) (c : Context) (last : Bool) (s rest : List ℕ) (xs : List TokenValue)
+      → ReadsForest (project z) (p ∷ c) last ts s → holds_text_alone z p ≡ false → IsUnambiguous (s ++ rest)
+      → SpellsTable ts xs → Run z Normal (s ++ rest) xs Normal rest → may_end_rows last ts s ≡ true
+      → end_rows xs ≡ true
+  rows_end none p c last s rest xs h e k spelled run q = rw spelled refl
+  rows_end (more u us) p c last s rest xs h e k spelled run q =
+      token_first run (part_token u us p c last s rest h e q (unambiguous_in_tag (s ++ rest) k))
+
+  rows_ending : (ts : ValueForest) (p : List ℕ) (c : Context) (last : Bool) (s rest : List ℕ)
+      → ReadsForest (project z) (p ∷ c) last ts s → Ending rest → may_end_rows last ts s ≡ true
+      → Ending (s ++ rest)
+  rows_ending none p c last s rest h st q = rw h st
+  rows_ending (more u us) p c last s rest h st q = inr (part_markup s rest q)
+
+  -- a section that ends so
+  part_kept : (t : ValueTree) (a b : Bool) (xs : List TokenValue) → (a ≡ true → b ≡ true) → SpellsPart a t xs
+      → SpellsPart b t xs
+  part_kept t a b xs i (inl k) = inl k
+  part_kept (element n attributes ks) a b xs i (inr k) =
+      inr (k.0, k.1, k.2, k.3, k.4, k.5, k.6, elim k.7 [ inl e ↦ inl (e.0, i e.1) | inr e ↦ inr e ])
+  part_kept _ a b xs i (inr k) = absurd k
+
+  part_next : (t : ValueTree) (ts : ValueForest) → PartRun t → TableRun z ts → TableRun z (more t ts)
+  part_next t ts one all p c last s rest h e o k st =
+      let b = and_parts (is_simple_tree t || is_simple_body t) (is_simple_table ts) o in
       let q = ap (λ (y : List ℕ). y ++ rest) h.2 ∙ append_assoc h.0 h.1 rest in
       let i = subst IsUnambiguous q k in
+      let may : Bool = may_end_rows last ts h.1 in
       let follows : IsTextTree t ≡ true → Ending (h.1 ++ rest) =
       λ f. text_ending z t ts p c last h.1 rest f h.3 h.5 (unambiguous_back h.0 (h.1 ++ rest) i) st in
-      let j = unambiguous_after z t p c _ h.0 (h.1 ++ rest) h.4 e b.0 follows i in
-      let first = one p c _ h.0 (h.1 ++ rest) h.4 e b.0 i follows in
+      let ends : may ≡ true → Ending (h.1 ++ rest) = rows_ending ts p c last h.1 rest h.5 st in
+      let j = unambiguous_part z t p c may h.0 (h.1 ++ rest) h.4 e b.0 follows ends i in
+      let first = one p c may h.0 (h.1 ++ rest) h.4 e b.0 i follows ends in
       let others = all p c last h.1 rest h.5 e b.1 j st in (
         first.0 ++ others.0,
-        (first.0, others.0, refl, first.1, others.1),
+        (
+          first.0,
+          others.0,
+          refl,
+          part_kept t may (end_rows others.0) first.0
+              (rows_end ts p c last h.1 rest others.0 h.5 e j others.1 others.2) first.1,
+          others.1,
+        ),
         from_text z q (joined z first.2 others.2),
       )
-
-  -- a last tree that is simple
-  simple_last : (t : ValueTree) → TreeRun z t → (p : List ℕ) (c : Context) (last : Bool) (s rest : List ℕ)
-      → ReadsForest (project z) (p ∷ c) last (more t none) s → holds_text_alone z p ≡ false
-      → is_simple_tree t ≡ true → IsUnambiguous (s ++ rest) → Ending rest
-      → Made z (SpellsTable (more t none)) s rest
-  simple_last t one p c last s rest h e o k st =
-      let q = ap (λ (y : List ℕ). y ++ rest) h.2 ∙ append_assoc h.0 h.1 rest in
-      let r = one p c _ h.0 (h.1 ++ rest) h.4 e o (subst IsUnambiguous q k)
-      (λ f. subst (λ (y : List ℕ). Ending (y ++ rest)) (sym h.5) st) in
-      last_run t (SpellsTable (more t none)) p c last s rest h (r.0, inl r.1, r.2)
-
-  rows_last : (n : List ℕ) (attributes : List AttributePair) (ks : ValueForest) → ForestRun z ks → Tail ks
-      → TableRun z ks → (p : List ℕ) (c : Context) (last : Bool) (s rest : List ℕ)
-      → ReadsForest (project z) (p ∷ c) last (more (element n attributes ks) none) s
-      → is_simple_body (element n attributes ks) ≡ true → IsUnambiguous (s ++ rest) → Ending rest
-      → Made z (SpellsTable (more (element n attributes ks) none)) s rest
-  rows_last n attributes ks ih tail tables p c last s rest h o k st =
-      let b = and_parts (may_be_implied n ks) (is_simple ks) o in
-      let name : n ≡ codes "tbody" = one_name (codes "tbody") n (and_parts (is_tbody n) (begins_with_row ks) b.0).0 in
-      let q = ap (λ (y : List ℕ). y ++ rest) h.2 ∙ append_assoc h.0 h.1 rest in
-      let run = body_run attributes ks ih tail tables p c (may_end_rows last none h.1) h.0 (h.1 ++ rest)
-      (subst (λ (m : List ℕ). ReadsTree (project z) (p ∷ c) (may_end_rows last none h.1) (element m attributes ks)
-      h.0)
-      name h.4) b.1 (subst IsUnambiguous q k) (subst (λ (y : List ℕ). Ending (y ++ rest)) (sym h.5) st) in
-      last_run (element n attributes ks) (SpellsTable (more (element n attributes ks) none)) p c last s rest h
-      (subst (λ (m : List ℕ). Made z (SpellsTable (more (element m attributes ks) none)) h.0 (h.1 ++ rest))
-      (sym name)
-      run)
 
   mutual
     tree_run : (t : ValueTree) → TreeRun z t
@@ -496,23 +571,19 @@ module _ (z : Bool) where
     forest_run (more t ts) p c last s rest h e o k st =
         next_run t ts (tree_run t) (forest_run ts) p c last s rest h e o k st
 
+    part_run : (t : ValueTree) → PartRun t
+    part_run (text u) p c last s rest h e o k st ends =
+        leaf_part (text u) last s rest (text_run z u p c last s rest h e refl k st)
+    part_run (comment u) p c last s rest h e o k st ends =
+        leaf_part (comment u) last s rest (comment_run z u p c last s rest h e refl k st)
+    part_run (element n attributes ks) p c last s rest h e o k st ends =
+        element_part n attributes ks (forest_run ks) (tail_run ks) (table_run ks) p c last s rest h e o k st ends
+    part_run _ p c last s rest h e o k st ends = absurd h
+
     table_run : (ts : ValueForest) → TableRun z ts
     table_run none p c last s rest h e o k st = ([], refl, rw h here)
-    table_run (more (element n attributes ks) none) p c last s rest h e o k st =
-        test (is_simple_tree (element n attributes ks))
-        (λ t. simple_last (element n attributes ks)
-        (λ p c last s rest h e o k st.
-        element_run n attributes ks (forest_run ks) (tail_run ks) (table_run ks) p c last s rest h e o k st)
-        p c last s rest h e t k st)
-        (λ t. rows_last n attributes ks (forest_run ks) (tail_run ks) (table_run ks) p c last s rest h (rw t at o) k
-        st)
-    table_run (more (text u) none) p c last s rest h e o k st =
-        simple_last (text u) (text_run z u) p c last s rest h e refl k st
-    table_run (more (comment u) none) p c last s rest h e o k st =
-        simple_last (comment u) (comment_run z u) p c last s rest h e refl k st
-    table_run (more _ none) p c last s rest h e o k st = absurd (h.4)
-    table_run (more t (more u us)) p c last s rest h e o k st =
-        table_next t u us (tree_run t) (table_run (more u us)) p c last s rest h e o k st
+    table_run (more t ts) p c last s rest h e o k st =
+        part_next t ts (part_run t) (table_run ts) p c last s rest h e o k st
 
 body_plain : (z : Bool) → holds_text_alone z (codes "body") ≡ false
 body_plain true = refl

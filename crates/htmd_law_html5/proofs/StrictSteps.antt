@@ -8,9 +8,15 @@ use Rattle.htmd_lexical.specs.AttributePairs.{AttributePair}
 use Rattle.htmd_values.specs.ValueTrees.{ValueTree, ValueForest, none, more, text}
 use Rattle.htmd_values.specs.ValueTrees.{comment, element}
 use Rattle.htmd_lexical.specs.CharacterClasses.{is_among, up_to}
-use Rattle.htmd_grammar.specs.Grammar.{Apart, begins_with_row, may_end_rows, ReadsTree, ReadsForest}
-use Rattle.htmd_grammar.specs.Nesting.{Context, is_table, is_tbody}
+use Rattle.htmd_grammar.specs.Grammar.{Apart, begins_with_row, may_end_rows, tag_name_at, ReadsTree, ReadsForest}
+use Rattle.htmd_grammar.specs.Nesting.{Context, is_table, is_tbody, is_table_part}
 use Rattle.htmd_grammar.specs.RawContent.{holds_text_alone, holds_raw_text, ends_text, begins_markup, text_of}
+use Rattle.htmd_grammar.specs.RawContent.{content_of}
+use Rattle.htmd_grammar.proofs.NestingLemmas.{one_name}
+use Rattle.htmd_lexical.specs.Characters.{less_than_sign}
+use Rattle.std.specs.Char.{is_ascii_alphabetic}
+use Rattle.std.specs.Bool.{MatchBool}
+use Rattle.std.specs.Prelude.{◌||◌, ◌==◌}
 use Rattle.htmd_grammar.specs.Rules.{named_characters, project}
 use Rattle.htmd_grammar.specs.References.{decode}
 use Rattle.htmd_grammar.specs.Tags.{IsStartTag, IsEndTag}
@@ -24,14 +30,29 @@ use Rattle.htmd_lexical.specs.declared.content_model.ContentModel.TheVariants.{N
 use Rattle.htmd_html5.specs.Html5Documents.{is_end}
 use Rattle.htmd_law_html5.specs.StrictReferences.{in_tag, IsUnambiguousAt, IsUnambiguous}
 use Rattle.htmd_law_html5.specs.StrictTokens.{content_after, tokens_within, SpellsTree, SpellsForest, is_set_aside}
-use Rattle.htmd_law_html5.specs.StrictTokens.{may_be_implied, is_simple_tree, is_simple, is_simple_table, SpellsTable}
+use Rattle.htmd_law_html5.specs.StrictTokens.{may_be_implied, is_simple_tree, is_simple, is_simple_table}
+use Rattle.htmd_law_html5.specs.StrictTokens.{is_simple_body, SpellsTable}
 use Rattle.htmd_law_html5.proofs.StrictReferencesLemmas.{Ending}
 use Rattle.htmd_law_html5.proofs.StrictCuts.{unambiguous_in_tag, unambiguous_past, unambiguous_after_sign, EndsInSign}
+use Rattle.htmd_law_html5.proofs.StrictCuts.{unambiguous_back}
 use Rattle.htmd_law_html5.proofs.StrictCuts.{sign_before, start_sign, end_sign}
 use Rattle.htmd_law_html5.proofs.StrictTokenCuts.{read, start_read, comment_read, comment_sign, text_token_read}
 use Rattle.htmd_law_html5.proofs.StrictRawTexts.{text_nothing, stop_same}
 use Rattle.htmd_html5_tokens.specs.Tokens as tokens
 use Rattle.htmd_html5_tokens.specs.NextToken as next
+
+pub section_plain : (z : Bool) → holds_text_alone z (codes "tbody") ≡ false
+section_plain true = refl
+section_plain false = refl
+
+-- the tag of a part of a table is markup
+pub part_markup : (s x : List ℕ) → is_table_part (tag_name_at s) ≡ true → next.begins_markup (s ++ x) ≡ true
+part_markup [] x e = absurd (cc)
+part_markup (b ∷ []) x e = absurd (cc)
+part_markup (b ∷ c ∷ s) x e =
+    test (b == less_than_sign && is_ascii_alphabetic c)
+    (λ t. let k = and_parts (b == less_than_sign) (is_ascii_alphabetic c) t in rw (k.0, k.1) refl)
+    (λ t. absurd (let w = rw t at e in cc))
 
 module _ (z : Bool) where
   -- ---- reading tokens one after another
@@ -186,6 +207,23 @@ module _ (z : Bool) where
           ∙ rows_begin ks (n ∷ p ∷ c) w.0 (w.1 ++ (h.1 ++ rest)) w.6 w.5 (subst (IsUnambiguousAt in_tag) q k))
   text_ending t (more _ ts) p c last s rest i a h k st = absurd (h.4)
 
+  -- what follows tags is unambiguous
+  after_tags : (n : List ℕ) (attributes : List AttributePair) (ks : ValueForest) (c : Context) (s x : List ℕ)
+      (tag inner end : List ℕ) → s ≡ tag ++ (inner ++ end) → IsStartTag named_characters tag n attributes
+      → MatchBool (is_void n) ((inner ≡ []) × (end ≡ []) × (ks ≡ none))
+      (ReadsForest (project z) (n ∷ c) true ks (content_of n inner) × IsEndTag end n)
+      → IsUnambiguous (s ++ x) → IsUnambiguous x
+  after_tags n attributes ks c s x tag inner end e start within k =
+      test (is_void n)
+      (λ v. let m = rw v at within in
+      let q : s ≡ tag =
+      e ∙ ap (λ (y : List ℕ). tag ++ (y ++ end)) m.0 ∙ ap (λ (y : List ℕ). tag ++ y) m.1
+      ∙ append-nil tag in
+      unambiguous_after_sign s x (subst EndsInSign (sym q) (start_sign tag n attributes start)) k)
+      (λ v. let m = rw v at within in
+      unambiguous_after_sign s x (subst EndsInSign (sym e)
+      (sign_before tag (inner ++ end) (sign_before inner end (end_sign end n m.1)))) k)
+
   -- what follows a tree is unambiguous
   pub unambiguous_after : (t : ValueTree) (p : List ℕ) (c : Context) (last : Bool) (s x : List ℕ)
       → ReadsTree (project z) (p ∷ c) last t s → holds_text_alone z p ≡ false → is_simple_tree t ≡ true
@@ -201,15 +239,47 @@ module _ (z : Bool) where
       spelled = (simple_parts n attributes ks o).1
 
       go : Inside (project z) (p ∷ c) last n attributes ks s → IsUnambiguous x
-      go (inl w) =
-          test (is_void n)
-          (λ v. let m = rw v at w.5 in
-          let q : s ≡ w.0 =
-          w.3 ∙ ap (λ (y : List ℕ). w.0 ++ (y ++ w.2)) m.0 ∙ ap (λ (y : List ℕ). w.0 ++ y) m.1
-          ∙ append-nil w.0 in
-          unambiguous_after_sign s x (subst EndsInSign (sym q) (start_sign w.0 n attributes w.4)) k)
-          (λ v. let m = rw v at w.5 in
-          unambiguous_after_sign s x (subst EndsInSign (sym w.3)
-          (sign_before w.0 (w.1 ++ w.2) (sign_before w.1 w.2 (end_sign w.2 n m.1)))) k)
+      go (inl w) = after_tags n attributes ks (p ∷ c) s x w.0 w.1 w.2 w.3 w.4 w.5 k
       go (inr w) = absurd (not_implied n ks spelled w.3 w.5)
   unambiguous_after _ p c last s x h e o st k = absurd h
+
+  -- and so is what follows trees
+  unambiguous_behind : (ts : ValueForest) (p : List ℕ) (c : Context) (last : Bool) (s x : List ℕ)
+      → ReadsForest (project z) (p ∷ c) last ts s → holds_text_alone z p ≡ false → is_simple ts ≡ true
+      → Ending x → IsUnambiguous (s ++ x) → IsUnambiguous x
+  unambiguous_behind none p c last s x h e o st k = rw h at k
+  unambiguous_behind (more t ts) p c last s x h e o st k =
+      let b = and_parts (is_simple_tree t) (is_simple ts) o in
+      let q = ap (λ (y : List ℕ). y ++ x) h.2 ∙ append_assoc h.0 h.1 x in
+      let i = subst IsUnambiguous q k in
+      let follows : IsTextTree t ≡ true → Ending (h.1 ++ x) =
+      λ f. text_ending t ts p c last h.1 x f h.3 h.5 (unambiguous_back h.0 (h.1 ++ x) i) st in
+      unambiguous_behind ts p c last h.1 x h.5 e b.1 st
+      (unambiguous_after t p c (may_end_rows last ts h.1) h.0 (h.1 ++ x) h.4 e b.0 follows i)
+
+  -- and what follows a part of a table
+  pub unambiguous_part : (t : ValueTree) (p : List ℕ) (c : Context) (last : Bool) (s x : List ℕ)
+      → ReadsTree (project z) (p ∷ c) last t s → holds_text_alone z p ≡ false
+      → (is_simple_tree t || is_simple_body t) ≡ true
+      → (IsTextTree t ≡ true → Ending x) → (last ≡ true → Ending x) → IsUnambiguous (s ++ x)
+      → IsUnambiguous x
+  unambiguous_part (element n attributes ks) p c last s x h e o st ends k =
+      test (is_simple_tree (element n attributes ks))
+      (λ t. unambiguous_after (element n attributes ks) p c last s x h e t st k)
+      (λ t. go (and_parts (may_be_implied n ks) (is_simple ks) (rw t at o)).1 h.2)
+    where
+      go : is_simple ks ≡ true → Inside (project z) (p ∷ c) last n attributes ks s → IsUnambiguous x
+      go b (inl w) = after_tags n attributes ks (p ∷ c) s x w.0 w.1 w.2 w.3 w.4 w.5 k
+      go b (inr w) = elim w.7 [
+        | inl g ↦ unambiguous_after_sign s x (subst EndsInSign (sym w.2) (sign_before w.0 w.1 (end_sign w.1 n g))) k
+        | inr g ↦
+            let q : s ≡ w.0 = w.2 ∙ ap (λ (y : List ℕ). w.0 ++ y) g.0 ∙ append-nil w.0 in
+            let plain : holds_text_alone z n ≡ false =
+            ap (holds_text_alone z) (one_name (codes "tbody") n w.3) ∙ section_plain z in
+            unambiguous_behind ks n (p ∷ c) true w.0 x w.6 plain b (ends g.1)
+            (subst (λ (y : List ℕ). IsUnambiguous (y ++ x)) q k)
+      ]
+  unambiguous_part (text u) p c last s x h e o st ends k = unambiguous_after (text u) p c last s x h e refl st k
+  unambiguous_part (comment u) p c last s x h e o st ends k =
+      unambiguous_after (comment u) p c last s x h e refl st k
+  unambiguous_part _ p c last s x h e o st ends k = absurd h

@@ -7,7 +7,7 @@ use Rattle.std.proofs.lemmas.Bool.{and_parts, or_right}
 use Rattle.htmd_lexical.specs.AttributePairs.{AttributePair}
 use Rattle.htmd_lexical.specs.CharacterClasses.{is_among, is_empty}
 use Rattle.htmd_lexical.specs.WhiteSpace.{is_ascii_white_space}
-use Rattle.htmd_grammar.specs.Nesting.{holds_rows}
+use Rattle.htmd_grammar.specs.Nesting.{holds_rows, is_table_part}
 use Rattle.htmd_grammar.proofs.NestingLemmas.{among_passes}
 use Rattle.htmd_html5_tokens.specs.Tokens.{start_tag, end_tag, text}
 use Rattle.htmd_html5_state.specs.Names.{known, html, name_of_text}
@@ -299,6 +299,48 @@ module _ (p : List ℕ) (c : List (List ℕ)) (s : StateValue) (h : InContext (p
         → feed (end_tag (tag_named (codes "caption") [] false)) s
         ≡ record s { stack = es; formatting = after_marker s.formatting; mode = InTable }
     caption_end k e = end_by (codes "caption") _ InCaption k e refl
+
+  -- a part of the table leaves the section whose end tag is absent
+  pub part_leaves : (b : ℕ) (es : List OpenValue)
+      → s.stack ≡ opened b (html (name_of_text (codes "tbody"))) ∷ es
+      → s.mode ≡ InTableBody → (o : List ℕ) (d : List (List ℕ))
+      → InContext (o ∷ d) (record s { stack = es; mode = InTable })
+      → (n : List ℕ) → is_table_part n ≡ true → (attributes : List AttributePair) (slash : Bool)
+      → feed (start_tag (tag_named n attributes slash)) s
+      ≡ feed (start_tag (tag_named n attributes slash)) (record s { stack = es; mode = InTable })
+  part_leaves b es k e o d i n r =
+      among_each (λ m. (attributes : List AttributePair) (slash : Bool)
+      → feed (start_tag (tag_named m attributes slash)) s
+      ≡ feed (start_tag (tag_named m attributes slash)) (record s { stack = es; mode = InTable }))
+      (codes "caption" ∷ codes "colgroup" ∷ codes "thead" ∷ codes "tbody" ∷ codes "tfoot" ∷ []) n r (
+        λ a f. leaves (codes "caption") a f _ refl refl,
+        (
+          λ a f. leaves (codes "colgroup") a f _ refl refl,
+          (
+            λ a f. leaves (codes "thead") a f _ refl refl,
+            (λ a f. leaves (codes "tbody") a f _ refl refl, (λ a f. leaves (codes "tfoot") a f _ refl refl, tt)),
+          ),
+        ),
+      )
+    where
+      left : StateValue
+      left = record s { stack = es; mode = InTable }
+
+      leaves : (m : List ℕ) (attributes : List AttributePair) (slash : Bool) (new : StateValue)
+          → in_mode InTableBody (tag_token m attributes slash)
+          (record s { stack = opened b (html (name_of_text (codes "tbody"))) ∷ es }) ≡ again left
+          → in_mode InTable (tag_token m attributes slash) left ≡ done new
+          → feed (start_tag (tag_named m attributes slash)) s ≡ feed (start_tag (tag_named m attributes slash)) left
+      leaves m attributes slash new away f =
+          let token : construction.TokenValue = tag_token m attributes slash in
+          let leaving : in_mode s.mode token s ≡ again left =
+          by_mode p c s h token e
+          ∙ ap (λ (stack : List OpenValue). in_mode InTableBody token (record s { stack = stack })) k ∙ away in
+          let whole : process token (out_of_text_mode (with_nothing_skipped s)) ≡ new =
+          ap (λ (x : StateValue). process token (out_of_text_mode x)) (unskipped p c s h)
+          ∙ rw (no_raw p c s h) (twice token s left new (ap not (goes p c s h token)) leaving
+          (ap not (goes o d left i token)) f) in
+          whole ∙ sym (fed o d left i token new (ap not (goes o d left i token)) f)
 
   -- the end of a table ends the section in it
   pub body_table_end : (b a : ℕ) (es : List OpenValue) (m : InsertionMode)

@@ -12,7 +12,7 @@ use Rattle.htmd_grammar.specs.RawContent.{drops_line_feed}
 use Rattle.htmd_grammar.specs.Rules.{project}
 use Rattle.htmd_values.specs.Serialisation.{is_void}
 use Rattle.htmd_grammar.specs.Grammar.{begins_with_row, reads}
-use Rattle.htmd_grammar.specs.Nesting.{is_table, is_tbody}
+use Rattle.htmd_grammar.specs.Nesting.{is_table, is_tbody, is_table_part}
 use Rattle.htmd_grammar.specs.HtmlDocuments.{below_body}
 use Rattle.htmd_html5_tokens.specs.Tokens.{TagValue, TokenValue, start_tag, end_tag, text, comment, Read}
 use Rattle.htmd_html5_tokens.specs.NextToken.{next_token}
@@ -78,6 +78,12 @@ after_feed tokens = tokens
 abbrev pub content_tokens : List ℕ → List TokenValue → List TokenValue
 content_tokens n tokens = if drops_line_feed n then after_feed tokens else tokens
 
+-- where the end tag of a `tbody` may be absent: at the end of its table, and before the next part of it
+abbrev pub end_rows : List TokenValue → Bool
+end_rows [] = true
+end_rows (start_tag tag ∷ tokens) = is_table_part tag.name
+end_rows tokens = false
+
 abbrev mutual
   -- a text and a comment are one token each; an element is its start tag, its content and its end tag, and if it is
   -- void its start tag alone, which may have a `/`
@@ -99,21 +105,20 @@ abbrev mutual
   SpellsForest (more t ts) tokens =
       (first others : List TokenValue) × (tokens ≡ first ++ others) × SpellsTree t first × SpellsForest ts others
 
-  -- what a table holds: the last tree may be rows without the tags of their `tbody`
+  -- what a table holds: a tree may be rows without the start tag of their `tbody`
   pub SpellsTable : ValueForest → List TokenValue → Type 0
   SpellsTable none tokens = tokens ≡ []
-  SpellsTable (more t none) tokens = SpellsTree t tokens ⊎ SpellsRows t tokens
-  SpellsTable (more t (more u us)) tokens =
-      (first others : List TokenValue) × (tokens ≡ first ++ others) × SpellsTree t first
-      × SpellsTable (more u us) others
+  SpellsTable (more t ts) tokens =
+      (first others : List TokenValue) × (tokens ≡ first ++ others)
+      × (SpellsTree t first ⊎ SpellsRows (end_rows others) t first) × SpellsTable ts others
 
-  -- its end tag may be there
-  pub SpellsRows : ValueTree → List TokenValue → Type 0
-  SpellsRows (trees.element n attributes children) tokens =
+  -- its end tag is there, or may be absent
+  pub SpellsRows : Bool → ValueTree → List TokenValue → Type 0
+  SpellsRows ends (trees.element n attributes children) tokens =
       (content end : List TokenValue) × (tokens ≡ content ++ end) × (is_tbody n ≡ true) × (attributes ≡ [])
       × (begins_with_row children ≡ true) × SpellsForest children content
-      × ((end ≡ []) ⊎ (end ≡ end_tag (tag_named (codes "tbody") [] false) ∷ []))
-  SpellsRows _ tokens = ⊥
+      × (((end ≡ []) × (ends ≡ true)) ⊎ (end ≡ end_tag (tag_named (codes "tbody") [] false) ∷ []))
+  SpellsRows ends _ tokens = ⊥
 
 -- ---- elements that are set aside
 
@@ -137,11 +142,10 @@ abbrev mutual
   is_simple none = true
   is_simple (more t ts) = is_simple_tree t && is_simple ts
 
-  -- in a table the last one may be such a `tbody`
+  -- in a table there may be such a `tbody`
   pub is_simple_table : ValueForest → Bool
   is_simple_table none = true
-  is_simple_table (more t none) = is_simple_tree t || is_simple_body t
-  is_simple_table (more t (more u us)) = is_simple_tree t && is_simple_table (more u us)
+  is_simple_table (more t ts) = (is_simple_tree t || is_simple_body t) && is_simple_table ts
 
   pub is_simple_body : ValueTree → Bool
   is_simple_body (trees.element n attributes children) = may_be_implied n children && is_simple children

@@ -90,11 +90,10 @@ abbrev mutual
   are_plain none = true
   are_plain (more t ts) = is_plain_tree t && are_plain ts
 
-  -- in a table the last one may be a `tbody` that begins with a row
+  -- in a table there may be a `tbody` that begins with a row
   pub are_plain_table : ValueForest → Bool
   are_plain_table none = true
-  are_plain_table (more t none) = is_plain_tree t || are_plain_rows t
-  are_plain_table (more t (more u us)) = is_plain_tree t && are_plain_table (more u us)
+  are_plain_table (more t ts) = (is_plain_tree t || are_plain_rows t) && are_plain_table ts
 
   pub are_plain_rows : ValueTree → Bool
   are_plain_rows (element n attributes children) = is_tbody n && begins_with_row children && are_plain children

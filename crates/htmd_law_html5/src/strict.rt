@@ -11,17 +11,16 @@ pub fn references_agree()
 {}
 
 /// The tokens that the lenient reader's tokenizer finds in a text of the strict grammar are those of its trees, in
-/// document order, where line ends are line feeds, there is no U+0000, each reference by name has its `;`, no element
-/// is a `textarea` or `script`, and no `tbody` begins with a `tr` but the last child of a table, which may have no
-/// tags.
+/// document order, where line ends are line feeds, there is no U+0000, each reference by name has its `;`, and no
+/// element is a `textarea` or `script`. A `tbody` that begins with a `tr` may have no tags.
 pub fn tokens_agree()
     ensures { TokensAgree }
 {}
 
 /// An unambiguous text of the strict grammar whose elements are plain is read after `<body>` as the tree that the
 /// grammar gives: `html` with an empty `head`, and a `body` with the content. Plain are all elements but `colgroup`,
-/// `col`, a `tbody` that begins with a `tr` and isn't the last child of a table, `select`, `form`, `object`, `applet`,
-/// `marquee`, parts of `ruby`, `noscript`, `script`, `textarea`, and those of MathML and SVG.
+/// `col`, `select`, `form`, `object`, `applet`, `marquee`, parts of `ruby`, `noscript`, `script`, `textarea`, and those
+/// of MathML and SVG.
 pub fn plain_pages_agree()
     ensures { PlainPagesAgree }
 {}

@@ -1,6 +1,6 @@
 -- What is read of the Markdown of a document in normal form is plain.
-use Rattle.std.proofs.Common.{◌≡◌, ◌≤◌, ◌+◌, Bool, ◌∙◌, ap, refl, [], ◌∷◌, true, false, Some, codes, arith}
-use Rattle.std.specs.Prelude.{nat_le, ◌||◌}
+use Rattle.std.proofs.Common.{◌≡◌, ◌≤◌, ◌+◌, ◌∙◌, ap, refl, [], ◌∷◌, true, false, Some, codes, arith}
+use Rattle.std.specs.Prelude.{nat_le}
 use Rattle.std.proofs.lemmas.Bool.{and_parts, and_from, le-leb}
 use Rattle.std.proofs.lemmas.Bool.Decides.{nat_tests}
 use Rattle.std.proofs.lemmas.List.{append-nil}
@@ -28,7 +28,6 @@ use Rattle.htmd_law_html5.specs.StrictTrees.{PlainPagesAgree, PlainTextsAgree}
 use Rattle.htmd_law_rendering.specs.PlainReadings.{block_has_no_elements, blocks_have_no_elements}
 use Rattle.htmd_law_rendering.specs.PlainReadings.{items_have_no_elements, blocks_are_paired, elements_fit}
 use Rattle.htmd_law_rendering.specs.PlainReadings.{block_elements_are_strict, elements_are_strict, takes_blocks}
-use Rattle.htmd_law_rendering.specs.PlainReadings.{is_row_block}
 use Rattle.htmd_law_rendering.specs.PlainReadings.{item_elements_are_strict, tree_depth, trees_depth, items_depth}
 use Rattle.htmd_law_rendering.specs.RenderedTrees.{list_name}
 use Rattle.htmd_law_rendering.specs.DocumentLaws.{reading_of, DocumentsAreSpelled, DocumentsAreParsed}
@@ -80,39 +79,39 @@ mutual
       ∙ ap (documents.item bs) (same-items rest p.1)
 
 mutual
-  plain-block : (c : Context) (r : Bool) (b : Block) → takes_blocks c ≡ true → block_has_no_elements b ≡ true
-      → (block_elements_are_strict c r b ≡ true) × (tree_depth b ≤ depth_of b + depth_of b)
-  plain-block c r (documents.paragraph content) t e = (t, omega arith)
-  plain-block c r (documents.heading level content) t e = (t, omega arith)
-  plain-block c r (documents.code_block language s) t e = (t, omega arith)
-  plain-block c r (documents.quote content) t e =
-      let i = plain-blocks (codes "blockquote" ∷ c) false content refl e in
+  plain-block : (c : Context) (b : Block) → takes_blocks c ≡ true → block_has_no_elements b ≡ true
+      → (block_elements_are_strict c b ≡ true) × (tree_depth b ≤ depth_of b + depth_of b)
+  plain-block c (documents.paragraph content) t e = (t, omega arith)
+  plain-block c (documents.heading level content) t e = (t, omega arith)
+  plain-block c (documents.code_block language s) t e = (t, omega arith)
+  plain-block c (documents.quote content) t e =
+      let i = plain-blocks (codes "blockquote" ∷ c) content refl e in
       let l = i.1 in (
-        and_from (takes_blocks c) (elements_are_strict (codes "blockquote" ∷ c) false content) t i.0,
+        and_from (takes_blocks c) (elements_are_strict (codes "blockquote" ∷ c) content) t i.0,
         omega (arith, l),
       )
-  plain-block c r documents.thematic_break t e = (t, omega arith)
-  plain-block c r (documents.list start is_tight items) t e =
+  plain-block c documents.thematic_break t e = (t, omega arith)
+  plain-block c (documents.list start is_tight items) t e =
       let i = plain-items (codes "li" ∷ list_name start ∷ c) items refl e in
       let l = i.1 in (
         and_from (takes_blocks c) (item_elements_are_strict (codes "li" ∷ list_name start ∷ c) items) t i.0,
         omega (arith, l),
       )
-  plain-block c r (documents.table alignments header rows) t e = (t, omega arith)
-  plain-block c r (documents.element name attributes content) t e = absurd (cc)
-  plain-block c r (documents.tags s) t e = absurd (cc)
+  plain-block c (documents.table alignments header rows) t e = (t, omega arith)
+  plain-block c (documents.element name attributes content) t e = absurd (cc)
+  plain-block c (documents.tags s) t e = absurd (cc)
 
-  plain-blocks : (c : Context) (r : Bool) (bs : Blocks) → takes_blocks c ≡ true
+  plain-blocks : (c : Context) (bs : Blocks) → takes_blocks c ≡ true
       → blocks_have_no_elements bs ≡ true
-      → (elements_are_strict c r bs ≡ true) × (trees_depth bs ≤ depth_among bs + depth_among bs)
-  plain-blocks c r no_blocks t e = (refl, omega arith)
-  plain-blocks c r (block b bs) t e =
+      → (elements_are_strict c bs ≡ true) × (trees_depth bs ≤ depth_among bs + depth_among bs)
+  plain-blocks c no_blocks t e = (refl, omega arith)
+  plain-blocks c (block b bs) t e =
       let p = and_parts (block_has_no_elements b) (blocks_have_no_elements bs) e in
-      let i = plain-block c r b t p.0 in
-      let j = plain-blocks c (r || is_row_block b) bs t p.1 in
+      let i = plain-block c b t p.0 in
+      let j = plain-blocks c bs t p.1 in
       let l = i.1 in
       let m = j.1 in (
-        and_from (block_elements_are_strict c r b) (elements_are_strict c (r || is_row_block b) bs) i.0 j.0,
+        and_from (block_elements_are_strict c b) (elements_are_strict c bs) i.0 j.0,
         omega (arith, l, m),
       )
 
@@ -123,20 +122,20 @@ mutual
   plain-items c documents.no_items t e = (refl, omega arith)
   plain-items c (documents.item bs rest) t e =
       let p = and_parts (blocks_have_no_elements bs) (items_have_no_elements rest) e in
-      let i = plain-blocks c false bs t p.0 in
+      let i = plain-blocks c bs t p.0 in
       let j = plain-items c rest t p.1 in
       let l = i.1 in
       let m = j.1 in
-      (and_from (elements_are_strict c false bs) (item_elements_are_strict c rest) i.0 j.0, omega (arith, l, m))
+      (and_from (elements_are_strict c bs) (item_elements_are_strict c rest) i.0 j.0, omega (arith, l, m))
 
 -- they fit
 pub plain-fit : (d : Blocks) → IsNormal d → blocks_have_no_elements d ≡ true → elements_fit d ≡ true
 plain-fit d n e =
     let p = and_parts (are_normal_blocks false d) (nat_le (depth_among d) most_nested) n in
     let few : depth_among d ≤ most_nested = grind (arith, nat_tests, p.1) in
-    let i = plain-blocks below_body false d refl e in
+    let i = plain-blocks below_body d refl e in
     let l = i.1 in
-    and_from (elements_are_strict below_body false d) (nat_le (trees_depth d) 998) i.0
+    and_from (elements_are_strict below_body d) (nat_le (trees_depth d) 998) i.0
     (le-leb (trees_depth d) 998 (omega (arith, few, l)))
 
 -- ---- the laws
@@ -162,7 +161,7 @@ documents-parsed pages texts z options d n few fit =
     let whole = sound options d n few in
     let seen = seen-flat options d n few in
     let flat = normal_is_flat d n in
-    let p = and_parts (elements_are_strict below_body false d) (nat_le (trees_depth d) 998) fit in
+    let p = and_parts (elements_are_strict below_body d) (nat_le (trees_depth d) 998) fit in
     let deep : trees_depth d ≤ 998 = grind (arith, nat_tests, p.1) in
     (parsed pages texts z (reading_of options d) (record {
       paired = paired options d n few;

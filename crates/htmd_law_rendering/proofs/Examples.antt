@@ -116,6 +116,17 @@ pub rows_of_a_table : trees_of (read (codes "<table>\n<caption>a</caption>\n<tr>
 unfolding chars
 rows_of_a_table = refl
 
+-- and between rows one ends their section
+pub rows_around_a_caption : trees_of (read (codes
+    "<table>\n<tr>\n<td>a</td>\n</tr>\n<caption>b</caption>\n<tr>\n<td>c</td>\n</tr>\n</table>"))
+    ≡ holding (codes "table") (more (text (codes "\n")) (holding (codes "tbody")
+    (holding (codes "tr") (more (text (codes "\n")) (holding (codes "td") (words (codes "a")) line)) line)
+    (holding (codes "caption") (words (codes "b")) (more (text (codes "\n")) (holding (codes "tbody")
+    (holding (codes "tr") (more (text (codes "\n")) (holding (codes "td") (words (codes "c")) line)) line)
+    none))))) line
+unfolding chars
+rows_around_a_caption = refl
+
 pub rows_are_spelled : all_spelled (spelled_of (read (codes
     "<table>\n<caption>a</caption>\n<tr>\n<td>b</td>\n</tr>\n</table>")))
     ≡ codes "<table>\n<caption>a</caption>\n<tr>\n<td>b</td>\n</tr>\n</table>\n"
@@ -184,13 +195,13 @@ a_row = document.element an.Row [] (one_block (document.element an.Cell [] docum
 abbrev a_caption : document.Block
 a_caption = document.element an.Caption [] (one_block document.thematic_break)
 
--- in a table captions stand before rows: behind rows one would end their section
+-- in a table captions stand before rows and behind
 pub a_table_fits : elements_fit (one_block (document.element an.Table [] (document.block a_caption (one_block a_row))))
     ≡ true
 a_table_fits = refl
 
 pub a_caption_behind : elements_fit (one_block (document.element an.Table [] (document.block a_row
-    (one_block a_caption)))) ≡ false
+    (one_block a_caption)))) ≡ true
 a_caption_behind = refl
 
 pub a_row_in_a_row : elements_fit (one_block (document.element an.Table [] (one_block

@@ -15,7 +15,8 @@ use Rattle.htmd_lexical.specs.CharacterClasses.{are_distinct, lacks, is_among}
 use Rattle.htmd_lexical.specs.WhiteSpace.{is_ascii_white_space}
 use Rattle.htmd_values.specs.Serialisation.{is_void, end_tag}
 use Rattle.htmd_grammar.specs.Grammar.{Apart, ReadsForest, ReadsTree, begins_with_row, may_end_rows}
-use Rattle.htmd_grammar.specs.Nesting.{Context, parent_name, holds_parts, is_allowed}
+use Rattle.htmd_grammar.specs.Grammar.{tag_name_at}
+use Rattle.htmd_grammar.specs.Nesting.{Context, parent_name, holds_parts, is_allowed, is_table_part}
 use Rattle.htmd_grammar.specs.RawContent.{content_of, holds_raw_text, holds_text_alone}
 use Rattle.htmd_grammar.specs.Rules.{project}
 use Rattle.htmd_grammar.proofs.ReadBackLemmas.{lacking_run}
@@ -37,9 +38,12 @@ use Rattle.htmd_law_rendering.proofs.TagLemmas.{end-tag}
 abbrev pub FitPairs : List AttributePair → Type 0
 FitPairs attributes = AreTreeKeys attributes × (are_distinct (attribute_names attributes) ≡ true)
 
--- no two texts are neighbours, and nothing stands behind a section
+-- no two texts are neighbours, and behind a section stands nothing but a caption
 abbrev pub AreApart : Spelled → SpelledForest → Type 0
 AreApart (text u) (more (text v) ts) = ⊥
+AreApart (section rows) none = ⊤
+AreApart (section rows) (more (element k n attributes ks) ts) = n ≡ codes "caption"
+AreApart (section rows) (more (lone n attributes s) ts) = n ≡ codes "caption"
 AreApart (section rows) (more t ts) = ⊥
 AreApart t ts = ⊤
 
@@ -50,7 +54,10 @@ same-apart (text u) (more (element k n attributes ks) ts) a = tt
 same-apart (text u) (more (lone n attributes s) ts) a = tt
 same-apart (text u) (more (section rows) ts) a = tt
 same-apart (section rows) none a = tt
-same-apart (section rows) (more t ts) a = absurd a
+same-apart (section rows) (more (element k n attributes ks) ts) a = tt
+same-apart (section rows) (more (lone n attributes s) ts) a = tt
+same-apart (section rows) (more (text u) ts) a = absurd a
+same-apart (section rows) (more (section other) ts) a = absurd a
 same-apart (element k n attributes ks) ts a = tt
 same-apart (lone n attributes s) ts a = tt
 
@@ -60,6 +67,37 @@ first a b d n l = let x = le-max_left a b in omega arith
 
 pub second : (a b d n : ℕ) → d + max a b ≤ n → d + b ≤ n
 second a b d n l = let x = le-max_right a b in omega arith
+
+-- a caption begins with its tag
+tag-begins : (k : TagForm) (attributes : List AttributePair) (s : List ℕ)
+    → is_table_part (tag_name_at (tag k (codes "caption") attributes ++ s)) ≡ true
+unfolding is_void
+tag-begins k [] s = refl
+tag-begins k (a ∷ attributes) s = refl
+
+caption-begins : (k : TagForm) (n : List ℕ) (attributes : List AttributePair) (ks ts : SpelledForest)
+    → n ≡ codes "caption" → is_table_part (tag_name_at (all_spelled (more (element k n attributes ks) ts)))
+    ≡ true
+unfolding is_void
+caption-begins k n attributes ks ts e =
+    let s : List ℕ = all_spelled ks ++ end_tag (codes "caption") in
+    subst (λ m. is_table_part (tag_name_at (all_spelled (more (element k m attributes ks) ts))) ≡ true) (sym e)
+    (ap (λ y. is_table_part (tag_name_at y))
+    (ap (λ y. y ++ all_spelled ts) (append_assoc (tag k (codes "caption") attributes) (all_spelled ks)
+    (end_tag (codes "caption")))
+    ∙ append_assoc (tag k (codes "caption") attributes) s (all_spelled ts))
+    ∙ tag-begins k attributes (s ++ all_spelled ts))
+
+lone-begins : (n : List ℕ) (attributes : List AttributePair) (s : List ℕ) (ts : SpelledForest)
+    → n ≡ codes "caption" → is_table_part (tag_name_at (all_spelled (more (lone n attributes s) ts))) ≡ true
+lone-begins n attributes s ts e =
+    let x : List ℕ = escaped_text s ++ end_tag (codes "caption") in
+    subst (λ m. is_table_part (tag_name_at (all_spelled (more (lone m attributes s) ts))) ≡ true) (sym e)
+    (ap (λ y. is_table_part (tag_name_at y))
+    (ap (λ y. y ++ all_spelled ts) (append_assoc (tag spaced (codes "caption") attributes) (escaped_text s)
+    (end_tag (codes "caption")))
+    ∙ append_assoc (tag spaced (codes "caption") attributes) x (all_spelled ts))
+    ∙ tag-begins spaced attributes (x ++ all_spelled ts))
 
 module _ (scripting : Bool) where
   -- where a text may stand
@@ -128,7 +166,10 @@ module _ (scripting : Bool) where
   is-last (element k n attributes ks) ts a = tt
   is-last (lone n attributes s) ts a = tt
   is-last (section rows) none a = refl
-  is-last (section rows) (more t ts) a = absurd a
+  is-last (section rows) (more (element k n attributes ks) ts) a = caption-begins k n attributes ks ts a
+  is-last (section rows) (more (lone n attributes s) ts) a = lone-begins n attributes s ts a
+  is-last (section rows) (more (text u) ts) a = absurd a
+  is-last (section rows) (more (section other) ts) a = absurd a
 
   mutual
     tree-read : (t : Spelled) (c : Context) (last : Bool) → FitsTree c t → lacks 13 (spelled t) ≡ true

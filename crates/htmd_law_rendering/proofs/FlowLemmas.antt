@@ -8,6 +8,7 @@ use Rattle.std.specs.Str.{bytes_eq}
 use Rattle.std.proofs.lemmas.Bool.{and_parts, not-true, true≢false}
 use Rattle.htmd_lexical.proofs.BytesLemmas.{same_bytes}
 use Rattle.htmd_lexical.proofs.Cases.{test}
+use Rattle.htmd_lexical.specs.AttributePairs.{AttributePair}
 use Rattle.htmd_lexical.specs.Attributes.{attribute_names}
 use Rattle.htmd_lexical.specs.CharacterClasses.{are_distinct, is_among, is_attribute_name, is_empty, is_tag_name}
 use Rattle.htmd_lexical.specs.CharacterClasses.{lacks}
@@ -30,15 +31,16 @@ use Rattle.htmd_law_rendering.specs.RawTags.{opening, closing}
 use Rattle.htmd_law_rendering.specs.RenderedTrees as trees
 use Rattle.htmd_law_rendering.specs.RenderedTrees.{line_end, Behind, opened, pairs_of_element, with_line, with_lines}
 use Rattle.htmd_law_rendering.specs.RenderedTrees.{sectioned, section_name, left_of_section, bounds_section}
-use Rattle.htmd_law_rendering.specs.RenderedTrees.{outside_section, ends_of}
+use Rattle.htmd_law_rendering.specs.RenderedTrees.{outside_section, ends_of, is_caption, in_table, before_caption}
 use Rattle.htmd_law_rendering.specs.SpelledTrees.{SpelledForest, none, more, text, element, lone, section}
 use Rattle.htmd_law_rendering.specs.SpelledTrees.{all_spelled}
 use Rattle.htmd_law_rendering.specs.PlainReadings.{opened_names, names_with, names_with_line, names_with_lines}
-use Rattle.htmd_law_rendering.specs.PlainReadings.{names_left, names_outside, names_with_ends, behind_first}
+use Rattle.htmd_law_rendering.specs.PlainReadings.{names_left, names_outside, names_with_ends, names_before}
+use Rattle.htmd_law_rendering.specs.PlainReadings.{behind_first}
 use Rattle.htmd_law_rendering.specs.PlainReadings.{takes_blocks, element_is_strict, below_open, line_is_strict}
 use Rattle.htmd_law_rendering.specs.PlainReadings.{lines_are_strict}
 use Rattle.htmd_law_rendering.proofs.FittingLemmas.{AreApart, FitPairs, Fits}
-use Rattle.htmd_law_rendering.proofs.LineLemmas.{not-void, not-section}
+use Rattle.htmd_law_rendering.proofs.LineLemmas.{not-void, not-section, in-table-named, before-some}
 use Rattle.htmd_law_rendering.proofs.PlaceLemmas.{TakesBlocks, HasNoLink, not-alone}
 use Rattle.htmd_law_rendering.proofs.RawLemmas.{names_of}
 use Rattle.htmd_law_rendering.proofs.RawNames.{flow_names}
@@ -206,10 +208,10 @@ stands z c e attributes a h =
 
 -- ---- lines before what is open
 
--- nothing stands behind a section
+-- nothing stands behind a section but a caption
 abbrev pub AreEnds : List Behind → Type 0
 AreEnds [] = ⊤
-AreEnds (b ∷ bs) = (is_tbody b.name ≡ true → b.trees ≡ none) × AreEnds bs
+AreEnds (b ∷ bs) = (is_tbody b.name ≡ true → AreApart (section none) b.trees) × AreEnds bs
 
 module _ (z : Bool) where
   -- what fits, with the names of the end tags in it
@@ -235,29 +237,49 @@ module _ (z : Bool) where
 
   -- ---- sections
 
-  apart-kept : (s : List ℕ) (ts : SpelledForest) → AreApart (text s) ts → AreApart (text s) (sectioned ts none)
-  apart-kept s none a = tt
-  apart-kept s (more (text u) ts) a = absurd a
-  apart-kept s (more (element k n attributes ks) ts) a = tt
-  apart-kept s (more (lone n attributes u) ts) a = tt
-  apart-kept s (more (section rows) ts) a = tt
+  apart-kept : (s : List ℕ) (ts rest : SpelledForest) → AreApart (text s) ts → AreApart (section none) rest
+      → AreApart (text s) (sectioned ts rest)
+  apart-kept s none none a b = tt
+  apart-kept s none (more (text u) rest) a b = absurd b
+  apart-kept s none (more (element k n attributes ks) rest) a b = tt
+  apart-kept s none (more (lone n attributes u) rest) a b = tt
+  apart-kept s none (more (section rows) rest) a b = tt
+  apart-kept s (more (text u) ts) rest a b = absurd a
+  apart-kept s (more (element k n attributes ks) ts) rest a b = tt
+  apart-kept s (more (lone n attributes u) ts) rest a b = tt
+  apart-kept s (more (section rows) ts) rest a b = tt
+
+  -- whatever rows there are
+  any-rows : (rows other ts : SpelledForest) → AreApart (section rows) ts → AreApart (section other) ts
+  any-rows rows other none a = tt
+  any-rows rows other (more (text u) ts) a = a
+  any-rows rows other (more (element k n attributes ks) ts) a = a
+  any-rows rows other (more (lone n attributes u) ts) a = a
+  any-rows rows other (more (section x) ts) a = a
 
   row-only : (c : Context) (n : List ℕ) → is_allowed z (codes "tbody" ∷ c) n ≡ true → is_row n ≡ true
   row-only c n h = section_fits (codes "tbody") n refl (allowed_parts z (codes "tbody" ∷ c) n h).2
 
   sectioned-fits : (ts : SpelledForest) (c : Context) → Around z c → is_table (parent_name c) ≡ true
-      → Fits z (codes "tbody" ∷ c) ts → Fits z c (sectioned ts none)
-  sectioned-fits none c a t f = tt
-  sectioned-fits (more (text s) ts) c a t f = (
+      → Fits z (codes "tbody" ∷ c) ts → (rest : SpelledForest) → AreApart (section none) rest → Fits z c rest
+      → Fits z c (sectioned ts rest)
+  sectioned-fits none c a t f rest b h = h
+  sectioned-fits (more (text s) ts) c a t f rest b h = (
     (f.0.0, (a.not_alone, (λ p. f.0.1.1 refl))),
-    apart-kept s ts f.1,
-    sectioned-fits ts c a t f.2,
+    apart-kept s ts rest f.1 b,
+    sectioned-fits ts c a t f.2 rest b h,
   )
-  sectioned-fits (more (element k n attributes ks) ts) c a t f =
-      ((section-allowed z c a t, row-only c n f.0.0, f), tt, tt)
-  sectioned-fits (more (lone n attributes s) ts) c a t f =
-      ((section-allowed z c a t, row-only c n f.0.0, f), tt, tt)
-  sectioned-fits (more (section rows) ts) c a t f =
+  sectioned-fits (more (element k n attributes ks) ts) c a t f rest b h = (
+    (section-allowed z c a t, row-only c n f.0.0, f),
+    any-rows none (more (element k n attributes ks) ts) rest b,
+    h,
+  )
+  sectioned-fits (more (lone n attributes s) ts) c a t f rest b h = (
+    (section-allowed z c a t, row-only c n f.0.0, f),
+    any-rows none (more (lone n attributes s) ts) rest b,
+    h,
+  )
+  sectioned-fits (more (section rows) ts) c a t f rest b h =
       let w = row-only c (codes "tbody") f.0.0 in absurd (cc)
 
   left-fit : (first : SpelledForest) (behind : List Behind) (ns : List (List ℕ)) (c : Context) → TakesBlocks z c
@@ -279,8 +301,7 @@ module _ (z : Bool) where
       let inner : Fits z (codes "tbody" ∷ here) first =
       subst (λ m. Fits z (m ∷ here) first) (one_name (codes "tbody") x.name t) i.fits.0 in
       let whole : Fits z here (sectioned first x.trees) =
-      subst (λ ts. Fits z here (sectioned first ts)) (sym (i.ends.0 t)) (sectioned-fits first here around parent inner)
-      in
+      sectioned-fits first here around parent inner x.trees (i.ends.0 t) i.fits.1.0 in
       rw (t, same) (record { fits = (whole, i.fits.1.1); named = names; flow = i.flow.2; ends = i.ends.1 }))
       (λ t. let same : is_tbody n ≡ false = sym (ap is_tbody name) ∙ t in rw (t, same) i)
 
@@ -342,8 +363,9 @@ module _ (z : Bool) where
       (λ q. let f = rw q at h in absurd (cc))
 
   closed-fit : (n : List ℕ) (o : trees.Open) (ms : List (List ℕ)) (c : Context) → is_among flow_names n ≡ true
-      → (is_tbody n ≡ true → is_table (parent_name ms) ≡ true) → (is_tbody n ≡ true → o.first ≡ none)
-      → IsFit c o ms → IsFit c (trees.with_raw (closing n) o) (n ∷ ms)
+      → (is_tbody n ≡ true → is_table (parent_name ms) ≡ true)
+      → (is_tbody n ≡ true → AreApart (section none) o.first) → IsFit c o ms
+      → IsFit c (trees.with_raw (closing n) o) (n ∷ ms)
   closed-fit n o ms c e t empty i = record {
     fits = (tt, i.fits);
     named = ap (λ ks. n ∷ ks) i.named;
@@ -364,10 +386,36 @@ module _ (z : Bool) where
       (λ t. let w = rw t at h in
       let x : section_name ∷ n ∷ ms ≡ ns = cc in
       rw t (subst (IsFit c (trees.with_raw (closing section_name) (trees.with_raw (closing n) o))) x
-      (closed-fit section_name (trees.with_raw (closing n) o) (n ∷ ms) c refl (λ u. t) (λ u. refl) one)))
+      (closed-fit section_name (trees.with_raw (closing n) o) (n ∷ ms) c refl (λ u. t) (λ u. tt) one)))
       (λ t. let w = rw t at h in
       let x : n ∷ ms ≡ ns = cc in
       rw t (subst (IsFit c (trees.with_raw (closing n) o)) x one))
+
+  -- the section that is left of a caption again
+  before-fit : (n : List ℕ) (o : trees.Open) (left : Option (List (List ℕ))) (ns : List (List ℕ)) (c : Context)
+      → names_before n left ≡ Some ns → (is_caption n ≡ true → AreApart (section none) o.first)
+      → ((ms : List (List ℕ)) → left ≡ Some ms → IsFit c o ms) → IsFit c (before_caption n o) ns
+  before-fit n o None ns c h a i = absurd (cc)
+  before-fit n o (Some ms) ns c h a i =
+      let j = i ms refl in
+      let same : (is_caption n && in_table o.behind) ≡ (is_caption n && is_table (parent_name ms)) =
+      ap (λ b. is_caption n && b) (in-table-named o.behind ∙ ap (λ ks. is_table (parent_name ks)) j.named) in
+      test (is_caption n && is_table (parent_name ms))
+      (λ t. let w = rw t at h in
+      let x : section_name ∷ ms ≡ ns = cc in
+      let p = and_parts (is_caption n) (is_table (parent_name ms)) t in
+      rw (same ∙ t) (subst (IsFit c (trees.with_raw (closing section_name) o)) x
+      (closed-fit section_name o ms c refl (λ u. p.1) (λ u. a p.0) j)))
+      (λ t. let w = rw t at h in
+      let x : ms ≡ ns = cc in rw (same ∙ t) (subst (IsFit c o) x j))
+
+  -- a caption that is opened stands first
+  opened-apart : (n : List ℕ) (attributes : List AttributePair) (first : SpelledForest) (behind : List Behind)
+      (ms ns : List (List ℕ)) → names_of behind ≡ ms → opened_names n ms ≡ Some ns → is_caption n ≡ true
+      → AreApart (section none) (opened n attributes first behind).first
+  opened-apart n attributes first [] [] ns k h e = absurd (cc)
+  opened-apart n attributes first [] (m ∷ ms) ns k h e = absurd (cc)
+  opened-apart n attributes first (b ∷ bs) ms ns k h e = one_name (codes "caption") n e
 
   white-empty : (n s : List ℕ) → (not (holds_parts n) || is_empty s) ≡ true → holds_parts n ≡ true
       → list_all is_ascii_white_space s ≡ true
@@ -382,15 +430,21 @@ module _ (z : Bool) where
       by_names (names_outside n left) refl h s
     where
       by_names : (k : Option (List (List ℕ))) → names_outside (element_name e) left ≡ k
-          → names_with (opening (element_name e) (pairs_of_element attributes)) k ≡ Some ns
+          → names_before (element_name e) (names_with (opening (element_name e) (pairs_of_element attributes)) k)
+          ≡ Some ns
           → element_is_strict (below_open c (behind_first k)) (element_name e) attributes ≡ true
           → IsFit c (with_line (lines.opening e attributes) o) ns
       by_names None q h s = absurd (cc)
       by_names (Some ms) q h s =
           let j = ended c (outside_section (element_name e) o) ms b
           (outside-fit (element_name e) o left ms c q b i) in
-          let d = outside_section (element_name e) o in
-          opened-fit e attributes (line_end d.first) d.behind ms ns c h s b j
+          let n = element_name e in
+          let d = outside_section n o in
+          let pairs = pairs_of_element attributes in
+          before-fit n (opened n pairs (line_end d.first) d.behind) (opened_names n ms) ns c h
+          (λ q. let k = before-some n (opened_names n ms) ns h in
+          opened-apart n pairs (line_end d.first) d.behind ms k.0 j.named k.1 q)
+          (λ ks f. opened-fit e attributes (line_end d.first) d.behind ms ks c f s b j)
   line-fit (lines.closing e) o left ns c h s b i =
       let n = element_name e in
       ends-fit e (trees.onto line_end (outside_section n o)) (names_outside n left) ns c h
@@ -398,13 +452,16 @@ module _ (z : Bool) where
   line-fit (lines.whole e attributes t) o left ns c h s b i =
       let n = element_name e in
       let d = outside_section n o in
-      let j = ended c d ns b (outside-fit n o left ns c h b i) in
+      let one = trees.onto (λ ts. more (lone n (pairs_of_element attributes) t) (line_end ts)) d in
+      before-fit n one (names_outside n left) ns c h (λ q. one_name (codes "caption") n q)
+      (λ ms f.
+      let j = ended c d ms b (outside-fit n o left ms c f b i) in
       let here = names_of d.behind ++ c in
       let p = and_parts (element_is_strict (below_open c (names_outside n left)) n attributes)
       (not (holds_parts n) || is_empty t) s in
       let strict = subst (λ ks. element_is_strict (below_open c ks) n attributes ≡ true)
-      (h ∙ ap Some (sym j.named)) p.0 in
-      let around = under c (trees.onto line_end d) ns b j in
+      (f ∙ ap Some (sym j.named)) p.0 in
+      let around = under c (trees.onto line_end d) ms b j in
       let own = stands z here e attributes around strict in
       record {
         fits = (
@@ -425,7 +482,7 @@ module _ (z : Bool) where
         named = j.named;
         flow = j.flow;
         ends = j.ends;
-      }
+      })
   line-fit lines.unknown o left ns c h s b i = absurd (cc)
 
   pub lines-fit : (ls : List (List ℕ)) (o : trees.Open) (left : Option (List (List ℕ))) (ns : List (List ℕ))

@@ -14,6 +14,7 @@ pub mod FlowLemmas
 pub mod StrictBlocks
 pub mod CleanLemmas
 pub mod PlainTreeLemmas
+pub mod BeginningLemmas
 pub mod ParsedLemmas
 pub mod PairedLemmas
 pub mod NestedStacks

@@ -2,7 +2,7 @@
 use Rattle.std.proofs.Common.{◌≡◌, ℕ, true, false, List, [], ◌∷◌, ◌++◌, refl, sym, ap, ◌∙◌, codes, Option, Some}
 use Rattle.std.proofs.Common.{None, drop, length, subst}
 use Rattle.std.specs.List.{flat_map, onto_first}
-use Rattle.std.specs.Prelude.{⊤, ◌==◌}
+use Rattle.std.specs.Prelude.{⊤, ◌==◌, ◌&&◌}
 use Rattle.std.specs.Str.{bytes_eq}
 use Rattle.std.proofs.lemmas.Bool.{and_parts, eqb-true}
 use Rattle.std.proofs.lemmas.List.{append_assoc, append-nil}
@@ -28,13 +28,13 @@ use Rattle.htmd_law_rendering.specs.RawTags.{opening, closing}
 use Rattle.htmd_law_rendering.specs.RenderedTrees as trees
 use Rattle.htmd_law_rendering.specs.RenderedTrees.{line_end, onto, pairs_of_element, with_line, with_lines, Behind}
 use Rattle.htmd_law_rendering.specs.RenderedTrees.{left_of_section, bounds_section, outside_section, ends_of}
-use Rattle.htmd_law_rendering.specs.RenderedTrees.{section_name}
-use Rattle.htmd_grammar.specs.Nesting.{is_table, is_tbody}
-use Rattle.htmd_law_rendering.specs.SpelledTrees.{spaced, SpelledForest, attribute_in, document_keys, lone}
+use Rattle.htmd_law_rendering.specs.RenderedTrees.{section_name, is_caption, in_table, before_caption}
+use Rattle.htmd_grammar.specs.Nesting.{is_table, is_tbody, parent_name}
+use Rattle.htmd_law_rendering.specs.SpelledTrees.{spaced, SpelledForest, attribute_in, document_keys, lone, more}
 use Rattle.htmd_law_rendering.specs.SpelledTrees.{spelled, tag}
 use Rattle.htmd_law_rendering.specs.SpelledTrees.{all_spelled}
 use Rattle.htmd_law_rendering.specs.PlainReadings.{names_with_line, names_with_lines, names_left, names_outside}
-use Rattle.htmd_law_rendering.specs.PlainReadings.{names_with_ends}
+use Rattle.htmd_law_rendering.specs.PlainReadings.{names_with_ends, names_with, names_before}
 use Rattle.htmd_law_rendering.proofs.RawLemmas.{end_of_open, behind_spelled, open_spelled, names_of, IsOpen, raw-ok}
 use Rattle.htmd_law_rendering.proofs.SpellingLemmas.{text-spelled, sectioned-spelled}
 
@@ -157,6 +157,10 @@ not-section an.Row = refl
 not-section an.Cell = refl
 not-section an.HeaderCell = refl
 
+pub in-table-named : (behind : List Behind) → in_table behind ≡ is_table (parent_name (names_of behind))
+in-table-named [] = refl
+in-table-named (b ∷ behind) = refl
+
 -- left of a section the same is written
 left-open : (first : SpelledForest) (behind : List Behind) (ns : List (List ℕ)) (html : List ℕ)
     → IsOpen (record { first = first; behind = behind }) ns html
@@ -219,6 +223,29 @@ ends-open e s html o (Some ms) ns k h i =
     let x : n ∷ ms ≡ ns = cc in
     rw t (subst (λ ks. IsOpen (trees.with_raw (closing n) o) ks (s ++ html)) x one))
 
+pub before-some : (n : List ℕ) (left : Option (List (List ℕ))) (ns : List (List ℕ))
+    → names_before n left ≡ Some ns
+    → (ks : List (List ℕ)) × (left ≡ Some ks)
+before-some n None ns e = absurd (cc)
+before-some n (Some ks) ns e = (ks, refl)
+
+-- a section has no tags
+before-open : (n : List ℕ) (o : trees.Open) (left : Option (List (List ℕ))) (html : List ℕ)
+    (ns : List (List ℕ))
+    → names_before n left ≡ Some ns → ((ms : List (List ℕ)) → left ≡ Some ms → IsOpen o ms html)
+    → IsOpen (before_caption n o) ns html
+before-open n o None html ns e h = absurd (cc)
+before-open n o (Some ms) html ns e h =
+    let i = h ms refl in
+    let same : (is_caption n && in_table o.behind) ≡ (is_caption n && is_table (parent_name ms)) =
+    ap (λ b. is_caption n && b) (in-table-named o.behind ∙ ap (λ ks. is_table (parent_name ks)) i.0) in
+    test (is_caption n && is_table (parent_name ms))
+    (λ t. let w = rw t at e in
+    let x : section_name ∷ ms ≡ ns = cc in
+    rw (same ∙ t) (ap (λ ks. section_name ∷ ks) i.0 ∙ x, i.1))
+    (λ t. let w = rw t at e in
+    let x : ms ≡ ns = cc in rw (same ∙ t) (subst (λ ks. IsOpen o ks html) x i))
+
 line-ok : (l : Line) (s html : List ℕ) (o : trees.Open) (left : Option (List (List ℕ))) (ns : List (List ℕ))
     → IsLine s l → names_with_line l left ≡ Some ns
     → ((ms : List (List ℕ)) → left ≡ Some ms → IsOpen o ms html)
@@ -227,10 +254,11 @@ line-ok (lines.opening e attributes) s html o left ns k h i =
     let n = element_name e in
     let r = opening n (pairs_of_element attributes) in
     let here = outside_section n o in
-    subst (IsOpen (trees.with_raw r (onto line_end here)) ns) (none-behind s (10 ∷ html))
-    (raw-ok r s (10 ∷ html) [] (onto line_end here) (names_outside n left) ns (k, not-void e, not-section e) h
+    before-open n (trees.with_raw r (onto line_end here)) (names_with r (names_outside n left)) (s ++ 10 ∷ html) ns h
+    (λ ks g. subst (IsOpen (trees.with_raw r (onto line_end here)) ks) (none-behind s (10 ∷ html))
+    (raw-ok r s (10 ∷ html) [] (onto line_end here) (names_outside n left) ks (k, not-void e, not-section e) g
     (λ ms f. subst (IsOpen (onto line_end here) ms) (sym (append-nil (10 ∷ html)))
-    (ended here ms html (outside-open n o left html ms f i))))
+    (ended here ms html (outside-open n o left html ms f i)))))
 line-ok (lines.closing e) s html o left ns k h i =
     let n = element_name e in
     let here = outside_section n o in
@@ -239,12 +267,14 @@ line-ok (lines.closing e) s html o left ns k h i =
 line-ok (lines.whole e attributes t) s html o left ns k h i =
     let n = element_name e in
     let here = outside_section n o in
-    let j = ended here ns html (outside-open n o left html ns h i) in
+    let one = onto (λ ts. more (lone n (pairs_of_element attributes) t) (line_end ts)) here in
+    before-open n one (names_outside n left) (s ++ 10 ∷ html) ns h
+    (λ ms f. let j = ended here ms html (outside-open n o left html ms f i) in
     let whole = spelled (lone n (pairs_of_element attributes) t) in (
       j.0,
       append_assoc whole (all_spelled (line_end here.first)) (behind_spelled here.behind)
           ∙ (ap (λ x. whole ++ x) j.1 ∙ ap (λ x. x ++ 10 ∷ html) (sym k)),
-    )
+    ))
 line-ok lines.unknown s html o left ns k h i = absurd (cc)
 
 -- lines as they are written

@@ -1,30 +1,29 @@
 -- What is open between the blocks of a flat document, if the document that it is has been found.
 use Rattle.std.proofs.Common.{◌≡◌, ℕ, ◌+◌, ◌≤◌, Bool, true, List, [], ◌∷◌, refl, sym, ap, ◌∙◌, Option, Some, None}
 use Rattle.std.proofs.Common.{length, subst, arith, inl, inr, codes}
-use Rattle.std.specs.Prelude.{◌⊎◌, if◌then◌else◌}
+use Rattle.std.specs.Prelude.{◌⊎◌, ◌&&◌, if◌then◌else◌}
+use Rattle.std.proofs.lemmas.Bool.{and_parts}
 use Rattle.htmd_lexical.proofs.BytesLemmas.{same_bytes, bytes_same}
 use Rattle.htmd_lexical.proofs.Cases.{test}
 use Rattle.htmd_document.specs.Documents.{Block, Blocks, paragraph, heading, code_block, quote, thematic_break}
 use Rattle.htmd_document.specs.Documents.{list, table, element, tags, no_blocks, block}
 use Rattle.htmd_document.specs.Tags.{element_name}
 use Rattle.htmd_document.specs.declared.document.BlockElement.{BlockElement}
-use Rattle.htmd_grammar.specs.Nesting.{is_table}
+use Rattle.htmd_grammar.specs.Nesting.{is_table, parent_name}
 use Rattle.htmd_grammar.proofs.NestingLemmas.{one_name}
 use Rattle.htmd_commonmark_reading.specs.Elements as lines
 use Rattle.htmd_commonmark_reading.specs.Elements.{Line, line_of, Stack, outside, inside, joined, with_block}
 use Rattle.htmd_commonmark_reading.specs.Elements.{text_blocks, is_same_element, with_line, with_lines}
 use Rattle.htmd_commonmark_reading.specs.Elements.{all_closed, with_flat, nested_block, nested}
 use Rattle.htmd_law_rendering.specs.RawTags.{opening}
-use Rattle.htmd_law_rendering.specs.RenderedTrees.{pairs_of_element, bounds_section, section_name}
+use Rattle.htmd_law_rendering.specs.RenderedTrees.{pairs_of_element, bounds_section, section_name, is_caption}
 use Rattle.htmd_law_rendering.specs.PlainReadings.{names_with, names_with_line, names_with_lines, names_left}
-use Rattle.htmd_law_rendering.specs.PlainReadings.{names_outside, names_with_ends, levels_of_element, tree_depth}
+use Rattle.htmd_law_rendering.specs.PlainReadings.{names_outside, names_with_ends, names_before, levels_of_element}
+use Rattle.htmd_law_rendering.specs.PlainReadings.{tree_depth}
 use Rattle.htmd_law_rendering.specs.PlainReadings.{trees_depth}
 use Rattle.htmd_law_rendering.proofs.LineLemmas.{not-section}
 
 -- ---- nothing is found where the stack is lost
-
-lost-lines : (ls : List (List ℕ)) → with_lines None ls ≡ None
-lost-lines ls = refl
 
 lost-flat : (b : Block) (made : Option Block) → with_flat None b made ≡ None
 lost-flat (paragraph xs) made = refl
@@ -83,6 +82,36 @@ outside-matches : (n : List ℕ) (ns : List (List ℕ)) (o : Stack) → Matches 
 outside-matches n ns o m =
     test (bounds_section n) (λ t. rw t (names_left ns, refl, left-matches ns o m)) (λ t. rw t (ns, refl, m))
 
+-- left of a caption is the section again
+before-matches : (n : List ℕ) (ns : List (List ℕ)) (o : Stack) → Matches ns o
+    → (ms : List (List ℕ)) × (names_before n (Some ns) ≡ Some ms) × Matches ms o
+before-matches n ns o m =
+    test (is_caption n && is_table (parent_name ns))
+    (λ t. rw t (
+      section_name ∷ ns,
+      refl,
+      in-section ns o m
+          (and_parts (is_caption n) (is_table (parent_name ns)) t).1,
+    ))
+    (λ t. rw t (ns, refl, m))
+  where
+    in-section : (ns : List (List ℕ)) (o : Stack) → Matches ns o → is_table (parent_name ns) ≡ true
+        → Matches (section_name ∷ ns) o
+    in-section ns (outside done) m t = let w = rw m at t in absurd (cc)
+    in-section ns (inside name attributes done below) m t =
+        elim m.2 [
+          | inl e ↦ (
+            m.0,
+            m.1,
+            inr (
+              ap (λ ks. is_table (parent_name ks)) (sym e)
+                  ∙ t,
+              ap (λ ks. section_name ∷ ks) e,
+            ),
+          )
+          | inr e ↦ let w = rw e.1 at t in absurd (cc)
+        ]
+
 -- what is left of the section of a table is the table
 pub table-names : (name : BlockElement) (ns ms : List (List ℕ))
     → ((ns ≡ element_name name ∷ ms)
@@ -109,12 +138,12 @@ pub line-names : (o p : Stack) (l : Line) (ns : List (List ℕ)) → with_line o
 line-names o p (lines.opening name attributes) ns e m =
     let x : inside name attributes no_blocks o ≡ p = cc in
     let k = subst (Matches ns) (sym x) m in
-    let n = element_name name in (
-      k.0,
-      ap (names_with (opening n (pairs_of_element attributes))) (table-names name ns k.0 k.2)
-          ∙ rw (bytes_same n) refl,
-      k.1,
-    )
+    let n = element_name name in
+    let tag = opening n (pairs_of_element attributes) in
+    let named : names_with tag (names_outside n (Some ns)) ≡ Some k.0 =
+    ap (names_with tag) (table-names name ns k.0 k.2) ∙ rw (bytes_same n) refl in
+    let before = before-matches n k.0 o k.1 in
+    (before.0, ap (names_before n) named ∙ before.1, before.2)
 line-names (outside done) p (lines.closing name) ns e m = absurd (cc)
 line-names (inside n attributes done below) p (lines.closing name) ns e m =
     test (is_same_element name n)
@@ -138,7 +167,10 @@ line-names (inside n attributes done below) p (lines.closing name) ns e m =
 line-names o p (lines.whole name attributes s) ns e m =
     let b = element name attributes (text_blocks s) in
     let x : with_block o b ≡ p = cc in
-    outside-matches (element_name name) ns o (same-names ns o b (subst (Matches ns) (sym x) m))
+    let n = element_name name in
+    let left = outside-matches n ns o (same-names ns o b (subst (Matches ns) (sym x) m)) in
+    let before = before-matches n left.0 o left.2 in
+    (before.0, ap (names_before n) left.1 ∙ before.1, before.2)
 line-names o p lines.unknown ns e m = absurd (cc)
 
 pub lines-names : (ls : List (List ℕ)) (o p : Stack) (ns : List (List ℕ)) → with_lines (Some o) ls ≡ Some p

@@ -18,7 +18,8 @@ use Rattle.htmd_law_rendering.specs.RenderingLaws.{RenderedIsParsed}
 use Rattle.htmd_law_rendering.proofs.RenderedLemmas.{rendered, pairs-end, open_blocks}
 use Rattle.htmd_law_rendering.proofs.StrictBlocks.{plain-fits, rendered-reads}
 use Rattle.htmd_law_rendering.proofs.CleanLemmas.{IsClean, spelled-clean}
-use Rattle.htmd_law_rendering.proofs.PlainTreeLemmas.{BeginsBody, trees-plain, block-begins}
+use Rattle.htmd_law_rendering.proofs.BeginningLemmas.{BeginsBody, block-begins}
+use Rattle.htmd_law_rendering.proofs.PlainTreeLemmas.{trees-plain}
 
 module _ (pages : PlainPagesAgree) (texts : PlainTextsAgree) (z : Bool) where
   unambiguous : (bs : Blocks) → IsPlain bs → lacks null (html_of bs) ≡ true → IsUnambiguous (html_of bs)

@@ -1,13 +1,11 @@
 -- The trees of what is read are plain, and begin a body.
-use Rattle.std.proofs.Common.{◌≡◌, ℕ, Bool, true, false, not, ◌&&◌, List, [], ◌∷◌, ◌++◌, drop, refl, sym, ap, ◌∙◌}
+use Rattle.std.proofs.Common.{◌≡◌, ℕ, Bool, true, false, ◌&&◌, List, [], ◌∷◌, ◌++◌, drop, refl, sym, ap, ◌∙◌}
 use Rattle.std.proofs.Common.{codes, Option, Some, None, subst}
-use Rattle.std.specs.Prelude.{nat_le, ⊤}
+use Rattle.std.specs.Prelude.{nat_le, ⊤, ◌||◌}
 use Rattle.std.proofs.lemmas.Bool.{and_parts, and_from, true≢false}
 use Rattle.htmd_lexical.proofs.Cases.{test}
 use Rattle.htmd_lexical.specs.AttributePairs.{AttributePair}
-use Rattle.htmd_lexical.specs.ByteOrderMarks.{behind_mark}
 use Rattle.htmd_lexical.specs.CharacterClasses.{is_among}
-use Rattle.htmd_document.specs.Documents.{BlockAttribute}
 use Rattle.htmd_document.specs.FlatDocuments.{lines_of}
 use Rattle.htmd_document.specs.Tags.{element_name}
 use Rattle.htmd_document.specs.declared.document.BlockElement.{BlockElement}
@@ -20,7 +18,7 @@ use Rattle.htmd_law_rendering.specs.SpelledTrees.{value_forest}
 use Rattle.htmd_values.specs.Serialisation.{is_void}
 use Rattle.htmd_grammar.proofs.NestingLemmas.{among_passes}
 use Rattle.htmd_law_html5.specs.StrictTrees.{is_plain_element, is_plain_tree, are_plain, are_plain_table, table_names}
-use Rattle.htmd_law_html5.specs.StrictTrees.{head_names, begins_body}
+use Rattle.htmd_law_html5.specs.StrictTrees.{are_plain_rows}
 use Rattle.htmd_grammar.specs.HtmlDocuments.{below_body}
 use Rattle.htmd_grammar.specs.Nesting.{Context, parent_name, is_table, is_tbody}
 use Rattle.htmd_values.specs.ValueTrees as value
@@ -34,9 +32,8 @@ use Rattle.htmd_commonmark_reading.specs.Markup.{thematic_break, list, table, ht
 use Rattle.htmd_commonmark_reading.specs.Markup.{Items, no_items, item, plain_text}
 use Rattle.htmd_commonmark_reading.specs.Rendering.{first_alignment, is_bare}
 use Rattle.htmd_document.specs.declared.document.Alignment.{Alignment}
-use Rattle.htmd_law_rendering.specs.SpelledTrees.{all_spelled}
 use Rattle.htmd_law_rendering.specs.RawTags.{RawTag, opening, closing, breaking, unknown, raw_tag}
-use Rattle.htmd_law_rendering.specs.RenderedTrees.{text_before, element_before, line_end, format_name}
+use Rattle.htmd_law_rendering.specs.RenderedTrees.{text_before, line_end, format_name}
 use Rattle.htmd_law_rendering.specs.RenderedTrees.{pairs_of_format}
 use Rattle.htmd_law_rendering.specs.RenderedTrees.{pairs_of_link, pairs_of_image, pairs_of_box, Behind, Open, opened}
 use Rattle.htmd_law_rendering.specs.RenderedTrees.{with_raw, inlines_open, inlines_trees, heading_name}
@@ -49,13 +46,15 @@ use Rattle.htmd_grammar.specs.Grammar.{begins_with_row}
 use Rattle.htmd_law_rendering.specs.PlainReadings.{are_strict, block_is_strict, blocks_are_strict, items_are_strict}
 use Rattle.htmd_law_rendering.specs.PlainReadings.{opened_names, names_with, names_with_line, names_with_lines}
 use Rattle.htmd_law_rendering.specs.PlainReadings.{names_with_html, names_left, names_outside, names_with_ends}
+use Rattle.htmd_law_rendering.specs.PlainReadings.{names_before}
 use Rattle.htmd_law_rendering.specs.PlainReadings.{blocks_unopened, block_is_paired, each_is_paired, items_are_paired}
 use Rattle.htmd_law_rendering.specs.PlainReadings.{blocks_are_paired, takes_blocks, below_open, stands_right}
 use Rattle.htmd_law_rendering.specs.RenderedTrees.{sectioned, section_name, left_of_section, bounds_section}
-use Rattle.htmd_law_rendering.specs.RenderedTrees.{outside_section, ends_of, onto}
+use Rattle.htmd_law_rendering.specs.RenderedTrees.{outside_section, ends_of, onto, is_caption, in_table, before_caption}
 use Rattle.htmd_law_rendering.specs.SpelledTrees.{Spelled, section, value_tree}
-use Rattle.htmd_law_rendering.proofs.FlowLemmas.{flow-named, AreFlow, AreEnds}
-use Rattle.htmd_law_rendering.proofs.LineLemmas.{ended_lines, split-ended, lines-named, not-section, outside-named}
+use Rattle.htmd_law_rendering.proofs.FlowLemmas.{flow-named, AreFlow}
+use Rattle.htmd_law_rendering.proofs.LineLemmas.{not-section}
+use Rattle.htmd_law_rendering.proofs.LineLemmas.{in-table-named}
 use Rattle.htmd_law_rendering.proofs.PlaceLemmas.{by_level}
 use Rattle.htmd_law_rendering.proofs.RawLemmas.{IsRaw, raw-is, names_of}
 use Rattle.htmd_law_rendering.proofs.RawNames.{raw_names, flow_names}
@@ -83,20 +82,14 @@ line-plain ts h = text-plain (codes "\n") ts h
 -- what is plain is so in a table
 plain-in-table : (ts : ValueForest) → are_plain ts ≡ true → are_plain_table ts ≡ true
 plain-in-table value.none h = refl
-plain-in-table (value.more t value.none) h = rw ((and_parts (is_plain_tree t) true h).0) refl
-plain-in-table (value.more t (value.more u us)) h =
-    let p = and_parts (is_plain_tree t) (are_plain (value.more u us)) h in
-    and_from (is_plain_tree t) (are_plain_table (value.more u us)) p.0 (plain-in-table (value.more u us) p.1)
+plain-in-table (value.more t ts) h =
+    let p = and_parts (is_plain_tree t) (are_plain ts) h in
+    and_from (is_plain_tree t || are_plain_rows t) (are_plain_table ts) (rw (p.0) refl) (plain-in-table ts p.1)
 
 element-plain : (k : TagForm) (n : List ℕ) (attributes : List AttributePair) (ks ts : SpelledForest)
     → is_plain_element n ≡ true → ArePlain ks → ArePlain ts → ArePlain (more (element k n attributes ks) ts)
 element-plain k n attributes ks ts e h f =
     test (is_table n) (λ t. rw (e, t, plain-in-table (value_forest ks) h, f) refl) (λ t. rw (e, t, h, f) refl)
-
-lone-plain : (n : List ℕ) (attributes : List AttributePair) (s : List ℕ) (ts : SpelledForest)
-    → is_plain_element n ≡ true → ArePlain ts → ArePlain (more (lone n attributes s) ts)
-lone-plain n attributes [] ts e f = test (is_table n) (λ t. rw (e, t, f) refl) (λ t. rw (e, t, f) refl)
-lone-plain n attributes (b ∷ s) ts e f = test (is_table n) (λ t. rw (e, t, f) refl) (λ t. rw (e, t, f) refl)
 
 -- ---- names
 
@@ -269,12 +262,10 @@ record TagsPlain (o : Open) (ns : List (List ℕ)) : Type 0 where
   behind : BehindHold o.behind
   named : names_of o.behind ≡ ns
   flow : AreFlow ns
-  ends : AreEnds o.behind
 
 cons-table : (t : ValueTree) (ts : ValueForest) → is_plain_tree t ≡ true → are_plain_table ts ≡ true
     → are_plain_table (value.more t ts) ≡ true
-cons-table t value.none h k = rw h refl
-cons-table t (value.more u us) h k = and_from (is_plain_tree t) (are_plain_table (value.more u us)) h k
+cons-table t ts h k = and_from (is_plain_tree t || are_plain_rows t) (are_plain_table ts) (rw h refl) k
 
 cons-holds : (ns : List (List ℕ)) (t : Spelled) (ts : SpelledForest) → is_plain_tree (value_tree t) ≡ true
     → HoldsPlain ns ts → HoldsPlain ns (more t ts)
@@ -286,8 +277,7 @@ cons-holds (n ∷ ns) t ts h k =
 
 line-in-table : (ts : SpelledForest) → TablePlain ts → TablePlain (line_end ts)
 line-in-table none h = refl
-line-in-table (more (text u) none) h = refl
-line-in-table (more (text u) (more v vs)) h = h
+line-in-table (more (text u) ts) h = h
 line-in-table (more (element k n attributes ks) ts) h = h
 line-in-table (more (lone n attributes u) ts) h = h
 line-in-table (more (section rows) ts) h = h
@@ -304,27 +294,33 @@ ended-tags o ns t = record {
   behind = t.behind;
   named = t.named;
   flow = t.flow;
-  ends = t.ends;
 }
 
--- a section is plain last in a table, whatever it begins with
-section-plain : (rows : SpelledForest) → ArePlain rows → TablePlain (more (section rows) none)
+-- a section is plain in a table, whatever it begins with
+section-plain : (rows rest : SpelledForest) → ArePlain rows → TablePlain rest
+    → TablePlain (more (section rows) rest)
 unfolding is_void
-section-plain rows h =
-    test (begins_with_row (value_forest rows)) (λ b. rw (b, h) refl) (λ b. rw (b, h) refl)
+section-plain rows rest h k =
+    test (begins_with_row (value_forest rows)) (λ b. rw (b, h, k) refl) (λ b. rw (b, h, k) refl)
 
-sectioned-plain : (ts : SpelledForest) → ArePlain ts → TablePlain (sectioned ts none)
-sectioned-plain none h = refl
-sectioned-plain (more (text s) ts) h =
-    cons-table (value.text s) (value_forest (sectioned ts none)) refl (sectioned-plain ts h)
-sectioned-plain (more (element k n attributes ks) ts) h = section-plain (more (element k n attributes ks) ts) h
-sectioned-plain (more (lone n attributes u) ts) h = section-plain (more (lone n attributes u) ts) h
-sectioned-plain (more (section rows) ts) h = section-plain (more (section rows) ts) h
+sectioned-plain : (ts rest : SpelledForest) → ArePlain ts → TablePlain rest → TablePlain (sectioned ts rest)
+sectioned-plain none rest h k = k
+sectioned-plain (more (text s) ts) rest h k =
+    cons-table (value.text s) (value_forest (sectioned ts rest)) refl (sectioned-plain ts rest h k)
+sectioned-plain (more (element x n attributes ks) ts) rest h k =
+    section-plain (more (element x n attributes ks) ts) rest h k
+sectioned-plain (more (lone n attributes u) ts) rest h k = section-plain (more (lone n attributes u) ts) rest h k
+sectioned-plain (more (section rows) ts) rest h k = section-plain (more (section rows) ts) rest h k
 
 in-a-table : (ns : List (List ℕ)) (ts : SpelledForest) → is_table (parent_name ns) ≡ true → TablePlain ts
     → HoldsPlain ns ts
 in-a-table [] ts h k = absurd (cc)
 in-a-table (n ∷ ns) ts h k = rw h k
+
+out-of-a-table : (ns : List (List ℕ)) (ts : SpelledForest) → is_table (parent_name ns) ≡ true → HoldsPlain ns ts
+    → TablePlain ts
+out-of-a-table [] ts h k = absurd (cc)
+out-of-a-table (n ∷ ns) ts h k = rw h at k
 
 left-tags : (first : SpelledForest) (behind : List Behind) (ns : List (List ℕ))
     → TagsPlain (record { first = first; behind = behind }) ns
@@ -344,11 +340,10 @@ left-tags first (x ∷ xs) (n ∷ ns) t =
     subst (λ m. HoldsPlain (m ∷ names_of xs) first) (one_name (codes "tbody") x.name q) t.first in
     rw (q, same) (record {
       first = in-a-table (names_of xs) (sectioned first x.trees) parent
-          (subst (λ ts. TablePlain (sectioned first ts)) (sym (t.ends.0 q)) (sectioned-plain first inner));
+          (sectioned-plain first x.trees inner (out-of-a-table (names_of xs) x.trees parent t.behind.0));
       behind = t.behind.1;
       named = names;
       flow = t.flow.2;
-      ends = t.ends.1;
     }))
     (λ q. let same : is_tbody n ≡ false = sym (ap is_tbody name) ∙ q in rw (q, same) t)
 
@@ -393,7 +388,6 @@ opened-tags e attributes first (x ∷ xs) (m ∷ ms) ns h t =
       behind = t.behind.1;
       named = same ∙ left;
       flow = subst AreFlow left t.flow.2;
-      ends = t.ends.1;
     })
     (λ q. let f = rw q at h in absurd (cc))
 
@@ -402,14 +396,13 @@ nothing-held [] = refl
 nothing-held (n ∷ ns) = test (is_table n) (λ q. rw q refl) (λ q. rw q refl)
 
 closed-tags : (n : List ℕ) (o : Open) (ms : List (List ℕ)) → is_among flow_names n ≡ true
-    → (is_tbody n ≡ true → is_table (parent_name ms) ≡ true) → (is_tbody n ≡ true → o.first ≡ none)
-    → TagsPlain o ms → TagsPlain (with_raw (closing n) o) (n ∷ ms)
-closed-tags n o ms e p empty t = record {
+    → (is_tbody n ≡ true → is_table (parent_name ms) ≡ true) → TagsPlain o ms
+    → TagsPlain (with_raw (closing n) o) (n ∷ ms)
+closed-tags n o ms e p t = record {
   first = nothing-held (n ∷ names_of o.behind);
   behind = (t.first, t.behind);
   named = ap (λ ks. n ∷ ks) t.named;
   flow = (e, p, t.flow);
-  ends = (empty, t.ends);
 }
 
 ends-tags : (e : BlockElement) (o : Open) (left : Option (List (List ℕ))) (ns : List (List ℕ))
@@ -419,15 +412,33 @@ ends-tags e o None ns h t = absurd (cc)
 ends-tags e o (Some ms) ns h t =
     let n = element_name e in
     let none_here = λ (q : is_tbody n ≡ true). true≢false (sym q ∙ not-section e) in
-    let one = closed-tags n o ms (flow-named e) (λ q. absurd (none_here q)) (λ q. absurd (none_here q)) (t ms refl) in
+    let one = closed-tags n o ms (flow-named e) (λ q. absurd (none_here q)) (t ms refl) in
     test (is_table n)
     (λ q. let w = rw q at h in
     let x : section_name ∷ n ∷ ms ≡ ns = cc in
     rw q (subst (TagsPlain (with_raw (closing section_name) (with_raw (closing n) o))) x
-    (closed-tags section_name (with_raw (closing n) o) (n ∷ ms) refl (λ u. q) (λ u. refl) one)))
+    (closed-tags section_name (with_raw (closing n) o) (n ∷ ms) refl (λ u. q) one)))
     (λ q. let w = rw q at h in
     let x : n ∷ ms ≡ ns = cc in
     rw q (subst (TagsPlain (with_raw (closing n) o)) x one))
+
+-- the section that is left of a caption again
+before-tags : (n : List ℕ) (o : Open) (left : Option (List (List ℕ))) (ns : List (List ℕ))
+    → names_before n left ≡ Some ns → ((ms : List (List ℕ)) → left ≡ Some ms → TagsPlain o ms)
+    → TagsPlain (before_caption n o) ns
+before-tags n o None ns h t = absurd (cc)
+before-tags n o (Some ms) ns h t =
+    let k = t ms refl in
+    let same : (is_caption n && in_table o.behind) ≡ (is_caption n && is_table (parent_name ms)) =
+    ap (λ b. is_caption n && b) (in-table-named o.behind ∙ ap (λ ks. is_table (parent_name ks)) k.named) in
+    test (is_caption n && is_table (parent_name ms))
+    (λ q. let w = rw q at h in
+    let x : section_name ∷ ms ≡ ns = cc in
+    let p = and_parts (is_caption n) (is_table (parent_name ms)) q in
+    rw (same ∙ q) (subst (TagsPlain (with_raw (closing section_name) o)) x
+    (closed-tags section_name o ms refl (λ u. p.1) k)))
+    (λ q. let w = rw q at h in
+    let x : ms ≡ ns = cc in rw (same ∙ q) (subst (TagsPlain o) x k))
 
 alone-plain : (n : List ℕ) (attributes : List AttributePair) (s : List ℕ) → is_plain_element n ≡ true
     → is_plain_tree (value_tree (lone n attributes s)) ≡ true
@@ -440,13 +451,17 @@ line-of-tags-plain : (l : Line) (o : Open) (left : Option (List (List ℕ))) (ns
 line-of-tags-plain (lines.opening e attributes) o left ns h t = by_names (names_outside (element_name e) left) refl h
   where
     by_names : (k : Option (List (List ℕ))) → names_outside (element_name e) left ≡ k
-        → names_with (opening (element_name e) (pairs_of_element attributes)) k ≡ Some ns
+        → names_before (element_name e) (names_with (opening (element_name e) (pairs_of_element attributes)) k)
+        ≡ Some ns
         → TagsPlain (with_line (lines.opening e attributes) o) ns
     by_names None q h = absurd (cc)
     by_names (Some ms) q h =
-        let d = outside_section (element_name e) o in
-        opened-tags e (pairs_of_element attributes) (line_end d.first) d.behind ms ns h
-        (ended-tags d ms (outside-tags (element_name e) o left ms q t))
+        let n = element_name e in
+        let d = outside_section n o in
+        let pairs = pairs_of_element attributes in
+        before-tags n (opened n pairs (line_end d.first) d.behind) (opened_names n ms) ns h
+        (λ ks f. opened-tags e pairs (line_end d.first) d.behind ms ks f
+        (ended-tags d ms (outside-tags n o left ms q t)))
 line-of-tags-plain (lines.closing e) o left ns h t =
     let d = outside_section (element_name e) o in
     ends-tags e (onto line_end d) (names_outside (element_name e) left) ns h
@@ -454,15 +469,16 @@ line-of-tags-plain (lines.closing e) o left ns h t =
 line-of-tags-plain (lines.whole e attributes u) o left ns h t =
     let n = element_name e in
     let d = outside_section n o in
-    let k = ended-tags d ns (outside-tags n o left ns h t) in
+    before-tags n (onto (λ ts. more (lone n (pairs_of_element attributes) u) (line_end ts)) d) (names_outside n left)
+    ns h
+    (λ ms f. let k = ended-tags d ms (outside-tags n o left ms f t) in
     record {
       first = cons-holds (names_of d.behind) (lone n (pairs_of_element attributes) u) (line_end d.first)
           (alone-plain n (pairs_of_element attributes) u (flow-plain e)) k.first;
       behind = k.behind;
       named = k.named;
       flow = k.flow;
-      ends = k.ends;
-    }
+    })
 line-of-tags-plain lines.unknown o left ns h t = absurd (cc)
 
 tags-plain : (ls : List (List ℕ)) (o : Open) (left : Option (List (List ℕ))) (ns : List (List ℕ))
@@ -510,12 +526,6 @@ begun-held false false ns ts h = h
 code_text-plain : (s : List ℕ) → ArePlain (code_trees s)
 code_text-plain [] = refl
 code_text-plain (b ∷ s) = text-plain (b ∷ s) (line_end none) refl
-
-begun-plain : (l bare : Bool) (ts : SpelledForest) → ArePlain ts → ArePlain (begun_line l bare ts)
-begun-plain true true ts h = h
-begun-plain true false ts h = line-plain ts h
-begun-plain false true ts h = h
-begun-plain false false ts h = h
 
 -- ---- tables
 
@@ -659,7 +669,7 @@ mutual
       → TagsPlain (blocks_open tight l bs) ns
   open_blocks-plain tight l no_blocks c ns u e s =
       let x : [] ≡ ns = cc in
-      record { first = refl; behind = tt; named = x; flow = subst AreFlow x tt; ends = tt }
+      record { first = refl; behind = tt; named = x; flow = subst AreFlow x tt }
   open_blocks-plain tight l (block b bs) c ns u e s =
       let left = blocks_unopened bs in
       let r = and_parts (block_is_paired b) (each_is_paired bs) e in
@@ -676,7 +686,6 @@ mutual
         behind = t.behind;
         named = t.named;
         flow = t.flow;
-        ends = t.ends;
       }
 
   items-plain : (tight : Bool) (items : Items) (c : Context) → items_are_paired items ≡ true
@@ -696,105 +705,3 @@ pub trees-plain : (bs : Blocks) → blocks_are_paired bs ≡ true → blocks_are
 trees-plain bs e s =
     let d = pairs-end bs e in
     nothing-open (blocks_open false false bs) (open_blocks-plain false false bs below_body [] d.0 d.1 s)
-
--- ---- beginnings
-
--- an element that belongs in no head comes first, and no byte order mark
-pub record BeginsBody (ts : SpelledForest) : Type 0 where
-  pub unmarked : behind_mark (all_spelled ts) ≡ all_spelled ts
-  pub belongs : begins_body (value_forest ts) ≡ true
-
-begins : (n : List ℕ) (attributes : List AttributePair) (ks ts : SpelledForest)
-    → not (is_among head_names n) ≡ true → BeginsBody (element_before n attributes ks ts)
-begins n attributes ks ts e = record {
-  unmarked = test (is_void n) (λ v. rw v refl) (λ v. rw v refl);
-  belongs = e;
-}
-
-flow-belongs : (e : BlockElement) → not (is_among head_names (element_name e)) ≡ true
-flow-belongs e =
-    among_passes (λ n. not (is_among head_names n)) flow_names (element_name e) (flow-named e) refl
-
-heading-belongs : (level : ℕ) → nat_le 1 level ≡ true → nat_le level 6 ≡ true
-    → not (is_among head_names (heading_name level)) ≡ true
-heading-belongs level l m =
-    by_level (λ n. not (is_among head_names n) ≡ true) level l m refl refl refl refl refl refl
-
-list-belongs : (start : Option ℕ) → not (is_among head_names (list_name start)) ≡ true
-list-belongs None = refl
-list-belongs (Some n) = refl
-
--- an opening tag in a line begins the first of the elements that are closed behind it
-opened-begins : (e : BlockElement) (attributes : List BlockAttribute) (first : SpelledForest) (behind : List Behind)
-    (ms ns : List (List ℕ)) → names_of behind ≡ ms → opened_names (element_name e) ms ≡ Some ns
-    → BeginsBody (opened (element_name e) (pairs_of_element attributes) first behind).first
-opened-begins e attributes first [] [] ns k h = absurd (cc)
-opened-begins e attributes first [] (m ∷ ms) ns k h = absurd (cc)
-opened-begins e attributes first (b ∷ bs) ms ns k h =
-    begins (element_name e) (pairs_of_element attributes) first b.trees (flow-belongs e)
-
--- the first line, where all tags pair
-line-begins : (l : Line) (o : Open) → names_with_line l (Some (names_of o.behind)) ≡ Some []
-    → BeginsBody (with_line l o).first
-line-begins (lines.opening e attributes) o h =
-    by_names (names_outside (element_name e) (Some (names_of o.behind))) refl h
-  where
-    by_names : (k : Option (List (List ℕ))) → names_outside (element_name e) (Some (names_of o.behind)) ≡ k
-        → names_with (opening (element_name e) (pairs_of_element attributes)) k ≡ Some []
-        → BeginsBody (with_line (lines.opening e attributes) o).first
-    by_names None q h = absurd (cc)
-    by_names (Some ms) q h =
-        let d = outside_section (element_name e) o in
-        opened-begins e attributes (line_end d.first) d.behind ms [] (outside-named (element_name e) o ms q) h
-line-begins (lines.closing e) o h =
-    absurd (closes-some (element_name e) (names_outside (element_name e) (Some (names_of o.behind))) h)
-  where
-    closes-some : (n : List ℕ) (left : Option (List (List ℕ))) → names_with_ends n left ≡ Some [] → ⊥
-    closes-some n None h = cc
-    closes-some n (Some ms) h = test (is_table n) (λ q. let w = rw q at h in cc) (λ q. let w = rw q at h in cc)
-line-begins (lines.whole e attributes t) o h = record { unmarked = refl; belongs = flow-belongs e }
-line-begins lines.unknown o h = absurd (cc)
-
-no-name : (l : Line) → names_with_line l None ≡ None
-no-name (lines.opening e attributes) = refl
-no-name (lines.closing e) = refl
-no-name (lines.whole e attributes t) = refl
-no-name lines.unknown = refl
-
-tags-begin : (ls : List (List ℕ)) (s : List ℕ) (o : Open) (left : Option (List (List ℕ)))
-    → ended_lines ls ≡ s ++ codes "\n" → names_with_lines ls left ≡ Some []
-    → ((ms : List (List ℕ)) → left ≡ Some ms → names_of o.behind ≡ ms)
-    → BeginsBody (with_lines ls o).first
-tags-begin [] [] o left e h i = absurd (cc)
-tags-begin [] (b ∷ s) o left e h i = absurd (cc)
-tags-begin (x ∷ rest) s o left e h i = by_rest (names_with_lines rest left) refl h
-  where
-    by_rest : (n : Option (List (List ℕ))) → names_with_lines rest left ≡ n
-        → names_with_line (line_of x) n ≡ Some []
-        → BeginsBody (with_lines (x ∷ rest) o).first
-    by_rest None f h = let w : None ≡ Some [] = sym (no-name (line_of x)) ∙ h in absurd (cc)
-    by_rest (Some ms) f h =
-        let named = lines-named rest o left ms f i in
-        line-begins (line_of x) (with_lines rest o) (ap (λ n. names_with_line (line_of x) (Some n)) named ∙ h)
-
-pub block-begins : (b : Block) (o : Open) (left : Option (List (List ℕ))) (c : Context)
-    → names_with_html b left ≡ Some [] → block_is_strict c left b ≡ true
-    → ((ms : List (List ℕ)) → left ≡ Some ms → names_of o.behind ≡ ms)
-    → BeginsBody (block_trees false b (with_html b o).first)
-block-begins (paragraph xs) o left c r s i = begins (codes "p") [] (inlines_trees xs none) (line_end o.first) refl
-block-begins (heading level xs) o left c r s i =
-    let p = and_parts (nat_le 1 level && nat_le level 6) (are_strict false xs) s in
-    let q = and_parts (nat_le 1 level) (nat_le level 6) p.0 in
-    begins (heading_name level) [] (inlines_trees xs none) (line_end o.first) (heading-belongs level q.0 q.1)
-block-begins (code_block language u) o left c r s i =
-    begins (codes "pre") [] (code_block_tree language u) (line_end o.first) refl
-block-begins (quote bs) o left c r s i =
-    begins (codes "blockquote") [] (line_end (blocks_trees false false bs)) (line_end o.first) refl
-block-begins thematic_break o left c r s i = begins (codes "hr") [] none (line_end o.first) refl
-block-begins (list start is_tight items) o left c r s i =
-    begins (list_name start) (pairs_of_start start) (line_end (items_trees is_tight items)) (line_end o.first)
-    (list-belongs start)
-block-begins (table alignments header rows) o left c r s i =
-    begins (codes "table") [] (line_end (lines_before (codes "thead") []
-    (row_trees (codes "th") alignments header none) (body_trees alignments rows))) (line_end o.first) refl
-block-begins (html_block u) o left c r s i = tags-begin (lines_of u) u o left (split-ended u) r i

@@ -1,6 +1,7 @@
 -- The trees of lines of tags are no deeper than the document that they are of.
 use Rattle.std.proofs.Common.{◌≡◌, ℕ, suc, ◌+◌, ◌≤◌, max, List, [], ◌∷◌, sym, ap, ◌∙◌, Option, Some, None, length}
 use Rattle.std.proofs.Common.{arith, subst, codes, refl}
+use Rattle.std.specs.Prelude.{◌&&◌}
 use Rattle.htmd_lexical.proofs.Cases.{test}
 use Rattle.htmd_document.specs.Tags.{element_name}
 use Rattle.htmd_document.specs.declared.document.BlockElement.{BlockElement}
@@ -11,10 +12,11 @@ use Rattle.htmd_law_rendering.specs.RawTags.{opening, closing}
 use Rattle.htmd_law_rendering.specs.RenderedTrees as trees
 use Rattle.htmd_law_rendering.specs.RenderedTrees.{line_end, onto, pairs_of_element, with_line, with_lines, Behind}
 use Rattle.htmd_law_rendering.specs.RenderedTrees.{sectioned, section_name, left_of_section, bounds_section}
-use Rattle.htmd_law_rendering.specs.RenderedTrees.{outside_section, ends_of}
+use Rattle.htmd_law_rendering.specs.RenderedTrees.{outside_section, ends_of, is_caption, in_table, before_caption}
 use Rattle.htmd_law_rendering.specs.SpelledTrees.{SpelledForest, text, element, lone, section, none, more, levels}
 use Rattle.htmd_law_rendering.specs.PlainReadings.{opened_names, names_with, names_with_line, names_outside}
-use Rattle.htmd_law_rendering.proofs.LineLemmas.{lines-named, outside-named}
+use Rattle.htmd_law_rendering.specs.PlainReadings.{names_before}
+use Rattle.htmd_law_rendering.proofs.LineLemmas.{lines-named, outside-named, before-some}
 use Rattle.htmd_law_rendering.proofs.NestedStacks.{Matches, StackIsLow, few-open, few-names, line-low, line-names}
 use Rattle.htmd_law_rendering.proofs.NestedStacks.{kept-lines}
 use Rattle.htmd_law_rendering.proofs.RawLemmas.{names_of}
@@ -94,24 +96,43 @@ opened-line e name o ns pairs h l = by_behind o.first o.behind h l
     by_behind first [] h l = absurd (cc)
     by_behind first (b ∷ bs) h l = opened-low e (element_name name) pairs first (b ∷ bs) b.name (names_of bs) refl l
 
+-- left of a caption a section again
+before-low : (n : ℕ) (name : List ℕ) (t : trees.Open) → length t.behind ≤ n → LowOpen (n + 24) t
+    → LowOpen (n + 24) (before_caption name t)
+before-low n name t few h =
+    test (is_caption name && in_table t.behind)
+    (λ q. rw q (closed-low (n + 24) section_name t (omega (arith, few)) h)) (λ q. rw q h)
+
+opened-few : (n : ℕ) (name : List ℕ) (pairs : _) (first : SpelledForest) (behind : List Behind)
+    → length behind ≤ n
+    → length (trees.opened name pairs first behind).behind ≤ n
+opened-few n name pairs first [] h = omega (arith, h)
+opened-few n name pairs first (b ∷ bs) h = omega (arith, h)
+
 one-low : (n : ℕ) (l : Line) (t : trees.Open) (ns : List (List ℕ)) → length t.behind ≤ n
     → names_with_line l (Some (names_of t.behind)) ≡ Some ns → LowOpen (n + 24) t
     → LowOpen (n + 24) (with_line l t)
 one-low n (lines.opening name attributes) t ns few h k =
     let m = element_name name in
     let d = outside_section m t in
-    let low = ended-low n d (outside-few n m t few) (outside-low (n + 24) m t k) in
-    by_names (names_outside m (Some (names_of t.behind))) refl h low
+    let less = outside-few n m t few in
+    let low = ended-low n d less (outside-low (n + 24) m t k) in
+    before-low n m (trees.with_raw (opening m (pairs_of_element attributes)) (onto line_end d))
+    (opened-few n m (pairs_of_element attributes) (line_end d.first) d.behind less)
+    (by_names (names_outside m (Some (names_of t.behind))) refl h low)
   where
     by_names : (q : Option (List (List ℕ))) → names_outside (element_name name) (Some (names_of t.behind)) ≡ q
-        → names_with (opening (element_name name) (pairs_of_element attributes)) q ≡ Some ns
+        → names_before (element_name name) (names_with (opening (element_name name) (pairs_of_element attributes)) q)
+        ≡ Some ns
         → LowOpen (n + 24) (onto line_end (outside_section (element_name name) t))
-        → LowOpen (n + 24) (with_line (lines.opening name attributes) t)
+        → LowOpen (n + 24) (trees.with_raw (opening (element_name name) (pairs_of_element attributes))
+        (onto line_end (outside_section (element_name name) t)))
     by_names None q h low = absurd (cc)
     by_names (Some ms) q h low =
         let named = outside-named (element_name name) t ms q in
-        opened-line (n + 24) name (onto line_end (outside_section (element_name name) t)) ns
-        (pairs_of_element attributes) (ap (opened_names (element_name name)) named ∙ h) low
+        let some = before-some (element_name name) (opened_names (element_name name) ms) ns h in
+        opened-line (n + 24) name (onto line_end (outside_section (element_name name) t)) some.0
+        (pairs_of_element attributes) (ap (opened_names (element_name name)) named ∙ some.1) low
 one-low n (lines.closing name) t ns few h k =
     let m = element_name name in
     let d = outside_section m t in
@@ -122,7 +143,9 @@ one-low n (lines.whole name attributes s) t ns few h k =
     let d = outside_section m t in
     let less = outside-few n m t few in
     let low = ended-low n d less (outside-low (n + 24) m t k) in
-    let l = low.0 in (omega (arith, less, l), low.1)
+    let l = low.0 in
+    before-low n m (onto (λ ts. more (lone m (pairs_of_element attributes) s) (line_end ts)) d) less
+    (omega (arith, less, l), low.1)
 one-low n lines.unknown t ns few h k = absurd (cc)
 
 pub lines-low : (n : ℕ) (ls : List (List ℕ)) (o p : Stack) (t : trees.Open)

@@ -56,10 +56,6 @@ text-alone s = text-spelled s none ∙ append-nil (escaped s)
 
 -- ---- elements
 
--- a tree and those behind it
-pub and-then : (a b x y rest : List ℕ) → a ≡ b → x ≡ y ++ rest → a ++ x ≡ (b ++ y) ++ rest
-and-then a b x y rest e f = ap (λ s. s ++ x) e ∙ (ap (λ s. b ++ s) f ∙ sym (append_assoc b y rest))
-
 pub element-spelled : (k : TagForm) (name : List ℕ) (attributes : List AttributePair) (ks : SpelledForest)
     → is_void name ≡ false
     → spelled (element k name attributes ks) ≡ tag k name attributes ++ all_spelled ks ++ end_tag name

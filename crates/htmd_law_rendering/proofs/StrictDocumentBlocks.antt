@@ -35,7 +35,7 @@ use Rattle.htmd_law_rendering.specs.PlainReadings.{item_elements_are_strict, tak
 use Rattle.htmd_law_rendering.specs.PlainReadings.{names_with_html, lines_are_strict}
 use Rattle.htmd_law_rendering.specs.RenderedTrees.{list_name}
 use Rattle.htmd_law_rendering.specs.RenderingLaws.{SeenIsStrict}
-use Rattle.htmd_law_rendering.proofs.PlacedStacks.{context_of, row_in, stack_is_strict, block-parted, Placed}
+use Rattle.htmd_law_rendering.proofs.PlacedStacks.{context_of, stack_is_strict, block-parted, Placed}
 use Rattle.htmd_law_rendering.proofs.PlacedStacks.{placed-before, context-next, lines-parted}
 use Rattle.htmd_law_rendering.proofs.PairedBlocks.{both-some, one-some, two-some, no-cells, Stepped, parts, no-parts}
 use Rattle.htmd_law_rendering.proofs.StrictSeen.{inlines-strict}
@@ -167,7 +167,7 @@ before-block c (html_block s) d o p ns t k h m =
 
 -- where an added block stands, if it takes a place for blocks
 record Here (c : Context) (o : Stack) (ns : List (List ℕ)) (made : document.Block) : Type 0 where
-  strict : block_elements_are_strict (context_of c o) (row_in o) made ≡ true
+  strict : block_elements_are_strict (context_of c o) made ≡ true
   place : takes_blocks (context_of c o) ≡ true → ns ++ c ≡ context_of c o
 
 here : (c : Context) (o p : Stack) (e made : document.Block) (ns : List (List ℕ)) → takes_blocks c ≡ true
@@ -176,7 +176,7 @@ here c o p e made ns t k x h m =
     let a = added-before c o p e ns k h m in
     let parted = block-parted c o e (subst (λ q. stack_is_strict c q ≡ true) (sym k) h) in
     record {
-      strict = subst (λ y. block_elements_are_strict (context_of c o) (row_in o) y ≡ true) (sym x) parted.1;
+      strict = subst (λ y. block_elements_are_strict (context_of c o) y ≡ true) (sym x) parted.1;
       place = λ b. context-next c ns o t a.0 b a.1;
     }
 
@@ -222,11 +222,11 @@ mutual
       (ap nested_block k.2 ∙ s.1) in
       let a = here c o p s.0 (document.quote n.0) ns t s.2 n.2 q m in
       let w = and_parts (takes_blocks (context_of c o))
-      (elements_are_strict (codes "blockquote" ∷ context_of c o) false n.0) a.strict in
+      (elements_are_strict (codes "blockquote" ∷ context_of c o) n.0) a.strict in
       let place = a.place w.0 in
       let inner = blocks-strict (codes "blockquote" ∷ ns ++ c) refl false bs k.0 (outside document.no_blocks) n.0 k.1
       (and_parts (is_filled k.0) (are_flat_blocks false k.0) (ap (is_flat_block i) k.2 ∙ h)).1 n.1
-      (subst (λ y. elements_are_strict (codes "blockquote" ∷ y) false n.0 ≡ true) (sym place) w.1) in
+      (subst (λ y. elements_are_strict (codes "blockquote" ∷ y) n.0 ≡ true) (sym place) w.1) in
       standing c o ns (blocks_are_strict (codes "blockquote" ∷ ns ++ c) bs) w.0 place inner.blocks
   block-strict c i thematic_break d o p ns t e h s q m =
       let y : document.thematic_break ≡ d = cc in
@@ -261,7 +261,7 @@ mutual
   blocks-strict : (c : Context) → takes_blocks c ≡ true → (in_item : Bool) (bs : Blocks) (flat : document.Blocks)
       (o : Stack) (d : document.Blocks) → document_blocks (seen_blocks bs) ≡ Some flat
       → are_flat_blocks in_item flat ≡ true → nested (Some o) flat ≡ Some d
-      → elements_are_strict c false d ≡ true
+      → elements_are_strict c d ≡ true
       → IsStrictHere c bs o
   blocks-strict c t i no_blocks flat o d e h n q =
       let x = no-parts flat o d e n in
@@ -298,7 +298,7 @@ mutual
       let r = and_parts (are_flat_blocks true k.0) (are_flat_items k.1) (ap are_flat_items k.4 ∙ f) in
       let m = two-some document.item (nested (Some (outside document.no_blocks)) k.0) (nested_items k.1) e
       (ap nested_items k.4 ∙ n) in
-      let w = and_parts (elements_are_strict c false m.0) (item_elements_are_strict c m.1)
+      let w = and_parts (elements_are_strict c m.0) (item_elements_are_strict c m.1)
       (ap (item_elements_are_strict c) m.4 ∙ q) in
       and_from (blocks_are_strict c bs) (items_are_strict c rest)
       (blocks-strict c t true bs k.0 (outside document.no_blocks) m.0 k.2 r.0 m.2 w.0).blocks

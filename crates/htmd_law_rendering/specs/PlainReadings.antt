@@ -25,6 +25,7 @@ use Rattle.htmd_commonmark_reading.specs.Markup.{Items, no_items, item}
 use Rattle.htmd_commonmark_reading.specs.Rendering.{html_of}
 use Rattle.htmd_law_rendering.specs.RawTags.{RawTag, opening, closing, breaking, unknown, raw_tag}
 use Rattle.htmd_law_rendering.specs.RenderedTrees.{spelled_of, pairs_of_element, bounds_section, section_name}
+use Rattle.htmd_law_rendering.specs.RenderedTrees.{is_caption}
 use Rattle.htmd_law_rendering.specs.RenderedTrees.{list_name}
 use Rattle.htmd_law_rendering.specs.SpelledTrees.{levels}
 
@@ -89,11 +90,18 @@ abbrev pub names_with_ends : List ℕ → Option (List (List ℕ)) → Option (L
 names_with_ends n None = None
 names_with_ends n (Some ns) = Some (if is_table n then section_name ∷ n ∷ ns else n ∷ ns)
 
+-- and the section again that is left of a caption
+abbrev pub names_before : List ℕ → Option (List (List ℕ)) → Option (List (List ℕ))
+names_before n None = None
+names_before n (Some ns) = Some (if is_caption n && is_table (parent_name ns) then section_name ∷ ns else ns)
+
 abbrev pub names_with_line : Line → Option (List (List ℕ)) → Option (List (List ℕ))
 names_with_line (lines.opening name attributes) ns =
-    names_with (opening (element_name name) (pairs_of_element attributes)) (names_outside (element_name name) ns)
+    names_before (element_name name) (names_with (opening (element_name name) (pairs_of_element attributes))
+    (names_outside (element_name name) ns))
 names_with_line (lines.closing name) ns = names_with_ends (element_name name) (names_outside (element_name name) ns)
-names_with_line (lines.whole name attributes s) ns = names_outside (element_name name) ns
+names_with_line (lines.whole name attributes s) ns =
+    names_before (element_name name) (names_outside (element_name name) ns)
 names_with_line lines.unknown ns = None
 
 abbrev pub names_with_lines : List (List ℕ) → Option (List (List ℕ)) → Option (List (List ℕ))
@@ -164,14 +172,6 @@ element_is_strict c n attributes =
 abbrev pub takes_blocks : Context → Bool
 takes_blocks c = not (holds_parts (parent_name c))
 
-abbrev pub is_row_block : document.Block → Bool
-is_row_block (document.element name attributes bs) = is_row (element_name name)
-is_row_block b = false
-
-abbrev pub has_row : document.Blocks → Bool
-has_row document.no_blocks = false
-has_row (document.block b bs) = is_row_block b || has_row bs
-
 -- where an element stands, a row in the section, and what stands in it
 abbrev pub place_of : List ℕ → Context → Context
 place_of n c = if is_row n then section_name ∷ c else c
@@ -179,33 +179,27 @@ place_of n c = if is_row n then section_name ∷ c else c
 abbrev pub around_content : List ℕ → Context → Context
 around_content n c = n ∷ place_of n c
 
--- in a table no row comes before something else
-abbrev pub comes_right : List ℕ → Bool → List ℕ → Bool
-comes_right outer after_row n = not (is_table outer && after_row) || is_row n
-
 abbrev mutual
-  -- each element of a document may stand below these, behind rows or not
-  pub block_elements_are_strict : Context → Bool → document.Block → Bool
-  block_elements_are_strict c after_row (document.quote bs) =
-      takes_blocks c && elements_are_strict (codes "blockquote" ∷ c) false bs
-  block_elements_are_strict c after_row (document.list start is_tight items) =
+  -- each element of a document may stand below these
+  pub block_elements_are_strict : Context → document.Block → Bool
+  block_elements_are_strict c (document.quote bs) =
+      takes_blocks c && elements_are_strict (codes "blockquote" ∷ c) bs
+  block_elements_are_strict c (document.list start is_tight items) =
       takes_blocks c && item_elements_are_strict (codes "li" ∷ list_name start ∷ c) items
-  block_elements_are_strict c after_row (document.element name attributes bs) =
+  block_elements_are_strict c (document.element name attributes bs) =
       (element_is_strict (place_of (element_name name) c) (element_name name) attributes
-      && fits_table (parent_name c) (if is_row (element_name name) then section_name else element_name name)
-      && comes_right (parent_name c) after_row (element_name name))
-      && elements_are_strict (around_content (element_name name) c) false bs
-  block_elements_are_strict c after_row b = takes_blocks c
+      && fits_table (parent_name c) (if is_row (element_name name) then section_name else element_name name))
+      && elements_are_strict (around_content (element_name name) c) bs
+  block_elements_are_strict c b = takes_blocks c
 
-  pub elements_are_strict : Context → Bool → document.Blocks → Bool
-  elements_are_strict c after_row document.no_blocks = true
-  elements_are_strict c after_row (document.block b bs) =
-      block_elements_are_strict c after_row b && elements_are_strict c (after_row || is_row_block b) bs
+  pub elements_are_strict : Context → document.Blocks → Bool
+  elements_are_strict c document.no_blocks = true
+  elements_are_strict c (document.block b bs) = block_elements_are_strict c b && elements_are_strict c bs
 
   pub item_elements_are_strict : Context → document.Items → Bool
   item_elements_are_strict c document.no_items = true
   item_elements_are_strict c (document.item bs rest) =
-      elements_are_strict c false bs && item_elements_are_strict c rest
+      elements_are_strict c bs && item_elements_are_strict c rest
 
 -- a table has a section in it
 abbrev pub levels_of_element : List ℕ → ℕ
@@ -229,7 +223,7 @@ abbrev mutual
 
 -- Each element may stand where it does, and they are nested only so deep that a tree has levels left for leaves.
 abbrev pub elements_fit : document.Blocks → Bool
-elements_fit d = elements_are_strict below_body false d && nat_le (trees_depth d) 998
+elements_fit d = elements_are_strict below_body d && nat_le (trees_depth d) 998
 
 -- an `a` is opened further left, or none is
 abbrev pub in_anchor : Option (List (List ℕ)) → Bool

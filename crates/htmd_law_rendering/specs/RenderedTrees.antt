@@ -1,8 +1,8 @@
 -- The trees that what is read of Markdown stands for: each block and inline as the element that its HTML has for it.
 -- Each definition gives trees before others, so that a text and one that follows it are one text. Raw tags in lines
 -- are paired from the right, and so are the lines of tags in HTML blocks.
-use Rattle.std.specs.Prelude.{ℕ, Bool, true, false, ◌/◌, ◌%◌, if◌then◌else◌, ◌==◌, List, [], ◌∷◌, ◌++◌, drop, codes}
-use Rattle.std.specs.Prelude.{Option, Some, None}
+use Rattle.std.specs.Prelude.{ℕ, Bool, true, false, ◌&&◌, ◌/◌, ◌%◌, if◌then◌else◌, ◌==◌, List, [], ◌∷◌, ◌++◌, drop}
+use Rattle.std.specs.Prelude.{codes, Option, Some, None}
 use Rattle.std.specs.Fmt.{decimal}
 use Rattle.std.specs.List.{flat_map}
 use Rattle.htmd_lexical.specs.Characters.{line_feed, space}
@@ -175,7 +175,7 @@ abbrev pub pairs_of_element : List BlockAttribute → List AttributePair
 pairs_of_element [] = []
 pairs_of_element (a ∷ rest) = pair (attribute_name a.name) a.value ∷ pairs_of_element rest
 
--- Rows up to the end of a table are in a section, whose tags HTML implies; a text before the first row isn't.
+-- Rows up to a caption or the end of a table are in a section, whose tags HTML implies; a text before the first isn't.
 abbrev pub sectioned : SpelledForest → SpelledForest → SpelledForest
 sectioned none rest = rest
 sectioned (more (text s) ts) rest = more (text s) (sectioned ts rest)
@@ -204,16 +204,28 @@ abbrev pub ends_of : List ℕ → Open → Open
 ends_of n o =
     if is_table n then with_raw (closing section_name) (with_raw (closing n) o) else with_raw (closing n) o
 
+-- and left of a caption in a table is a section again
+abbrev pub is_caption : List ℕ → Bool
+is_caption n = is_among (codes "caption" ∷ []) n
+
+abbrev pub in_table : List Behind → Bool
+in_table [] = false
+in_table (b ∷ behind) = is_table b.name
+
+abbrev pub before_caption : List ℕ → Open → Open
+before_caption n o = if is_caption n && in_table o.behind then with_raw (closing section_name) o else o
+
 -- a line before trees: tags stand for elements as those in lines of text do
 abbrev pub with_line : Line → Open → Open
 with_line (lines.opening name attributes) o =
-    with_raw (opening (element_name name) (pairs_of_element attributes))
-    (onto line_end (outside_section (element_name name) o))
+    before_caption (element_name name) (with_raw (opening (element_name name) (pairs_of_element attributes))
+    (onto line_end (outside_section (element_name name) o)))
 with_line (lines.closing name) o =
     ends_of (element_name name) (onto line_end (outside_section (element_name name) o))
 with_line (lines.whole name attributes s) o =
-    onto (λ ts. more (lone (element_name name) (pairs_of_element attributes) s) (line_end ts))
-    (outside_section (element_name name) o)
+    before_caption (element_name name) (onto (λ ts. more
+    (lone (element_name name) (pairs_of_element attributes) s) (line_end ts))
+    (outside_section (element_name name) o))
 with_line lines.unknown o = o
 
 abbrev pub with_lines : List (List ℕ) → Open → Open

@@ -1,5 +1,5 @@
 -- The HTML of what is read of Markdown, and the trees that it is of.
-use Rattle.std.specs.Prelude.{◌≡◌, ℕ, Bool, true, false, List, ◌++◌, codes, Some}
+use Rattle.std.specs.Prelude.{◌≡◌, ℕ, Bool, true, List, ◌++◌, codes, Some}
 use Rattle.htmd_lexical.specs.Characters.{null}
 use Rattle.htmd_lexical.specs.CharacterClasses.{lacks}
 use Rattle.htmd_grammar.specs.Rules.{project}
@@ -40,5 +40,5 @@ SeenIsPaired = (s : List ℕ) (d : documents.Blocks) → document s ≡ Some d �
 -- have six levels, and elements stand where HTML allows them.
 abbrev pub SeenIsStrict : Type 0
 SeenIsStrict = (s : List ℕ) (flat d : documents.Blocks) → flat_document s ≡ Some flat → IsFlat flat
-    → nested_document flat ≡ Some d → elements_are_strict below_body false d ≡ true
+    → nested_document flat ≡ Some d → elements_are_strict below_body d ≡ true
     → blocks_are_strict below_body (read s) ≡ true
