@@ -7,6 +7,7 @@ use Rattle.htmd_shown.specs.SimpleTrees.{Simple, text, image, formula, embedded,
 use Rattle.htmd_flow.specs.Contexts.{bare_in}
 use Rattle.htmd_flow.specs.Flows.{document_of}
 use Rattle.htmd_document_of_tree.specs.declared.anchors.Anchors.{Anchors}
+use Rattle.htmd_document_of_tree.specs.declared.anchors.Anchors.TheVariants as which
 use Rattle.htmd_document_of_tree.specs.Anchors.{Placing, placing_after_all, all_placed, values_of, last_anchors}
 use Rattle.htmd_document_of_tree.specs.Anchors.{targets_by, anchored}
 use Rattle.htmd_document_of_tree.specs.FirstPieces.{pieced_all}
@@ -20,7 +21,7 @@ use Rattle.htmd_law_documents.proofs.SoundLemmas.{limited-sound, anchored-sound,
 use Rattle.htmd_law_documents.proofs.WrapperTreeLemmas.{HaveAddress, HaveAddresses, document-keeps}
 use Rattle.htmd_law_anchors.specs.DocumentMarks.{Mark, place, marks_of_blocks}
 use Rattle.htmd_law_anchors.specs.ShownThings.{ShowAll}
-use Rattle.htmd_law_anchors.specs.AnchorLaws.{with_places, ids_of, Stands, HasAnchors, LinksLeadThere}
+use Rattle.htmd_law_anchors.specs.AnchorLaws.{with_places, ids_of, Stands, HasAnchors, LinksLeadThere, NoneStand}
 use Rattle.htmd_law_anchors.proofs.MarkReader.{marks, blocks-marks}
 use Rattle.htmd_law_anchors.proofs.MarkTreeLemmas.{MarkAll, trees-read}
 use Rattle.htmd_law_anchors.proofs.PieceMarkLemmas.{pieced-marks}
@@ -111,3 +112,6 @@ links_lead_there which sight tree e =
     let shown : Simples = shown_in sight tree in
     has-anchors which sight.is_rich shown (limited shown) (λ things h. limited-show shown false false things h)
     (limited-sound shown (page-sound sight tree e)) (limited-bare shown (page-bare sight tree))
+
+pub none_stand : NoneStand
+none_stand sight tree e = (links_lead_there which.None sight tree e).ids

@@ -81,6 +81,11 @@ abbrev pub LinksLeadThere : Type 0
 LinksLeadThere = (anchors : Anchors) (sight : Sight) (tree : NumberedTree) → is_text_tree tree ≡ true
     → AnchorsOfTree anchors sight tree
 
+-- So by none it has no anchor.
+abbrev pub NoneStand : Type 0
+NoneStand = (sight : Sight) (tree : NumberedTree) → is_text_tree tree ≡ true
+    → ids_of (marks_of_blocks (document_of_tree which.None sight tree)) ≡ []
+
 -- By links the targets are those of all that a link leads to, and not only from the heading that their place is in.
 abbrev pub LinkedAreLedTo : Type 0
 LinkedAreLedTo = (is_rich : Bool) (trees : Simples)

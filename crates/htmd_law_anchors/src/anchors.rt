@@ -1,7 +1,7 @@
 //! Which anchors a document has, and where.
 ghost use Rattle.htmd_nodes.specs.NumberedTrees.{tree_of};
 ghost use Rattle.htmd_shown.specs.SightViews.{sight_with};
-ghost use Rattle.htmd_law_anchors.specs.AnchorLaws.{LinksLeadThere, LinkedAreLedTo, EachValueHasTarget};
+ghost use Rattle.htmd_law_anchors.specs.AnchorLaws.{LinksLeadThere, NoneStand, LinkedAreLedTo, EachValueHasTarget};
 ghost use Rattle.htmd_law_anchors.specs.AnchorLaws.{AnchorsOfTree, LinksCount, LinksOfTree, LinksReach};
 
 use htmd_document_of_tree::Anchors;
@@ -10,6 +10,11 @@ use htmd_nodes::Tree;
 /// The document of a tree has the anchors that its links lead to, or all, each once, and each where the page has it.
 pub fn links_lead_there()
     ensures { LinksLeadThere }
+{}
+
+/// With none the document has no anchor.
+pub fn none_stand()
+    ensures { NoneStand }
 {}
 
 /// The anchors that its links lead to are those of all that a link leads to, and not only from its own heading.
@@ -41,7 +46,8 @@ pub fn links_count()
     ensures { LinksCount }
 {}
 
-/// By links each link to a part of the page for which the page has a place leads to an anchor of the document.
+/// By `Linked` each link to a part of the page leads to an anchor of the document, if the page has a place for it that
+/// stands in no heading with a link to it.
 pub fn links_reach()
     ensures { LinksReach }
 {}
