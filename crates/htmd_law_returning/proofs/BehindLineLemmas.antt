@@ -22,10 +22,12 @@ use Rattle.htmd_document.specs.Documents.{Inlines, no_inlines, inline}
 use Rattle.htmd_document.specs.Formats.{Format}
 use Rattle.htmd_document.specs.NormalInlines.{are_normal}
 use Rattle.htmd_document_of_tree.specs.Limits.{characters, left_after, left_after_all}
+use Rattle.htmd_document_of_tree.specs.Limits.{Written, written, written_all, with_text}
 use Rattle.htmd_flow.specs.Flows.{node_of}
 use Rattle.htmd_flow.specs.Levels.{list_of}
 use Rattle.htmd_flow.specs.Paragraphs.{Writing, fed, fed_all, after_character}
 use Rattle.htmd_flow.specs.Parts.{Part, run}
+use Rattle.htmd_flow.specs.Parts as part
 use Rattle.htmd_shown.specs.declared.role.Role.TheVariants as role
 use Rattle.htmd_shown.specs.Facts.{made}
 use Rattle.htmd_shown.specs.Kinds.{has}
@@ -38,9 +40,8 @@ use Rattle.htmd_law_rendering.specs.SpelledTrees.{SpelledForest, value_forest as
 use Rattle.htmd_law_rendering.specs.RenderedTrees.{line_end, format_name, encoded_address, pairs_of_image}
 use Rattle.htmd_law_rendering.specs.RenderedTrees.{pairs_of_link, pairs_of_format}
 use Rattle.htmd_law_returning.specs.PageFormats.{format_shows, line_shows}
-use Rattle.htmd_law_returning.proofs.BareLemmas.{is_bare, are_bare}
-use Rattle.htmd_law_returning.proofs.CostLemmas.{AllSpend, said_sizes}
-use Rattle.htmd_law_returning.proofs.FlowLemmas.{here, parts_of, text-parts, none-parts}
+use Rattle.htmd_law_returning.proofs.CostLemmas.{AllSpend, IsLess, all-less}
+use Rattle.htmd_law_returning.proofs.ReadyLemmas.{here, parts_of, text-parts, none-parts}
 use Rattle.htmd_law_returning.proofs.HeldLemmas.{are_held}
 use Rattle.htmd_law_returning.proofs.FormatLemmas.{format_role, format-inline, format-unbroken}
 use Rattle.htmd_law_returning.proofs.InlineLemmas.{line-end-utf8, line-end-text}
@@ -50,13 +51,24 @@ use Rattle.htmd_law_returning.proofs.LineFormLemmas.{normal-one, settled-one}
 use Rattle.htmd_law_returning.proofs.OrderLemmas.{is_ordered, ordered-next, ordered-less}
 use Rattle.htmd_law_returning.proofs.PageLemmas.{IsElement, from-text, from-element, IsFresh, fresh-next, shown_of}
 use Rattle.htmd_law_returning.proofs.PageLemmas.{line-shown, none-shown}
-use Rattle.htmd_law_returning.proofs.ShownLineLemmas.{text-at, code-at, break-at, image-at, link-plain, format-at}
+use Rattle.htmd_law_returning.proofs.ShownInlines.{text-at, code-at, break-at, image-at, link-plain, format-at}
 use Rattle.htmd_law_returning.proofs.BreakLemmas.{some-text}
 use Rattle.htmd_law_returning.proofs.StandLemmas.{is_break, Stands, Lacks, beside, stands-behind, begins_filled}
 use Rattle.htmd_law_returning.proofs.StandLemmas.{lacks-end, end-lacks}
 use Rattle.htmd_law_returning.proofs.StartLemmas.{false-true, true-false}
 use Rattle.htmd_law_returning.proofs.TextLemmas.{text-line}
 use Rattle.htmd_law_returning.proofs.TreesLemmas.{spelled_line}
+use Rattle.std.specs.List.{list_all}
+use Rattle.std.specs.Prelude.{if◌then◌else◌}
+use Rattle.htmd_shown.specs.Spaces.{is_blank_text, is_white}
+use Rattle.htmd_law_returning.proofs.LocalAnchors.{local, local_all, pending, pending_all, put_if, waits}
+use Rattle.htmd_law_returning.proofs.KindLemmas.{kind-local, item-inner}
+use Rattle.htmd_law_returning.proofs.FlowAnchors.{text-flow}
+use Rattle.htmd_law_returning.proofs.SoundNodes.{IsEnded, at_end, at_text, behind_node}
+use Rattle.htmd_law_returning.proofs.ShownInlines.{place-at}
+use Rattle.htmd_law_returning.proofs.TreesLemmas.{pairs_of_anchor}
+use lib.Utf8.{encode}
+use Rattle.std.proofs.Common.{map, not}
 
 -- ---- a text with a line's end
 
@@ -84,6 +96,14 @@ text-fed w s u =
     ∙ ap (λ cs. fold (λ v c. after_character v [] false c)
     (fold (λ v c. after_character v [] false c) w (chars s)) cs) (sym line-end-characters))
 
+-- white space at its end makes no text blank, nor another
+blank-ended : (s : List ℕ) → IsUtf8 s → is_blank_text (s ++ line_feed ∷ []) ≡ is_blank_text s
+blank-ended s u = ap (list_all is_white) (characters-before s u) ∙ last (chars s)
+  where
+    last : (cs : List ℕ) → list_all is_white (cs ++ line_feed ∷ []) ≡ list_all is_white cs
+    last [] = refl
+    last (c ∷ cs) = ap (λ b. is_white c && b) (last cs)
+
 or-assoc : (a b c : Bool) → (a || (b || c)) ≡ ((a || b) || c)
 or-assoc true b c = refl
 or-assoc false b c = refl
@@ -100,13 +120,15 @@ longer s u =
 module _ (is_rich : Bool) (n : ℕ) where
   -- the nodes of a line, its end, and those behind it
   pub record IsExtended (us vs ts : Simples) : Type 0 where
-    pub bare : are_bare vs ≡ true → are_bare ts ≡ true → are_bare us ≡ true
+    pub shape : IsEnded us vs ts
     pub spends : (l : Option ℕ) → left_after_all l us ≡ left_after_all (left_after_all l vs) ts
-    pub said : said_sizes vs + said_sizes ts ≤ said_sizes us
+    pub said : (w : Written) → IsLess (written_all (written_all w vs) ts) (written_all w us)
     pub kinds : list_any (has is_paragraph) (list_of us)
         ≡ (list_any (has is_paragraph) (list_of vs) || list_any (has is_paragraph) (list_of ts))
-    pub gives : (w : Writing) → fed_all w (parts_of is_rich n us)
-        ≡ fed_all (fed (fed_all w (parts_of is_rich n vs)) (run (line_feed ∷ []) [] false)) (parts_of is_rich n ts)
+    pub waits : (ids : List (List ℕ)) → pending_all ids us ≡ pending_all (pending_all ids vs) ts
+    pub gives : (ids : List (List ℕ)) (w : Writing) → fed_all w (parts_of is_rich n (local_all ids us))
+        ≡ fed_all (fed (fed_all w (parts_of is_rich n (local_all ids vs))) (run (line_feed ∷ []) [] false))
+        (parts_of is_rich n (local_all (pending_all ids vs) ts))
 
   from-shown : {us vs : Simples} (xs ys ts : Simples) → xs ≡ us → ys ≡ vs → IsExtended us vs ts
       → IsExtended xs ys ts
@@ -114,28 +136,52 @@ module _ (is_rich : Bool) (n : ℕ) where
       subst (λ (zs : Simples). IsExtended zs ys ts) (sym e) (subst (λ (zs : Simples). IsExtended us zs ts) (sym f) h)
 
   end-extended : (ts : Simples) → IsExtended (more (simple.text (line_feed ∷ [])) ts) none ts
+  unfolding chars encode
   end-extended ts = record {
-    bare = λ h e. e;
+    shape = at_end ts;
     spends = λ l. refl;
-    said = omega arith;
+    said = λ w. all-less w (with_text w (line_feed ∷ [])) ts (refl, omega arith);
     kinds = refl;
-    gives = λ w. ap (fed_all w) (text-parts is_rich n 0 (line_feed ∷ []) ts)
-        ∙ ap (λ ps. fed_all (fed (fed_all w ps) (run (line_feed ∷ []) [] false)) (parts_of is_rich n ts))
+    waits = λ ids. refl;
+    gives = λ ids w. ap (fed_all w) (text-parts is_rich n 0 (line_feed ∷ []) (local_all ids ts))
+        ∙ ap (λ ps. fed_all (fed (fed_all w ps) (run (line_feed ∷ []) [] false))
+        (parts_of is_rich n (local_all ids ts)))
         (sym (none-parts is_rich n 0));
   }
 
+  -- a text with anchors before it or not
+  text-gives : (ids : List (List ℕ)) (b : Bool) (s : List ℕ) (us : Simples)
+      → parts_of is_rich n (more (put_if b ids (simple.text s)) us)
+      ≡ (if b then map part.place ids else []) ++ run s [] false ∷ parts_of is_rich n us
+  text-gives ids false s us = text-parts is_rich n 0 s us
+  text-gives ids true s us =
+      text-flow ids s us (here is_rich n) ∙ ap (λ ps. map part.place ids ++ ps) (text-parts is_rich n 0 s us)
+
   text-extended : (s : List ℕ) (ts : Simples) → IsUtf8 s
       → IsExtended (more (simple.text (s ++ line_feed ∷ [])) ts) (more (simple.text s) none) ts
-  text-extended s ts u = record {
-    bare = λ h e. e;
-    spends = λ l. refl;
-    said = let more_said = longer s u in omega (arith, more_said);
-    kinds = refl;
-    gives = λ w. ap (fed_all w) (text-parts is_rich n 0 (s ++ line_feed ∷ []) ts)
-        ∙ (ap (λ v. fed_all v (parts_of is_rich n ts)) (text-fed w s u)
-        ∙ ap (λ ps. fed_all (fed (fed_all w ps) (run (line_feed ∷ []) [] false)) (parts_of is_rich n ts))
-        (sym (text-parts is_rich n 0 s none ∙ ap (λ ps. run s [] false ∷ ps) (none-parts is_rich n 0))));
-  }
+  text-extended s ts u =
+      let same : is_blank_text (s ++ line_feed ∷ []) ≡ is_blank_text s = blank-ended s u in
+      let shows : Bool = not (is_blank_text s) in
+      record {
+        shape = at_text s ts same;
+        spends = λ l. refl;
+        said = λ w. let more_said = longer s u in
+            all-less (with_text w s) (with_text w (s ++ line_feed ∷ [])) ts (refl, omega (arith, more_said));
+        kinds = refl;
+        waits = λ ids. ap (λ b. pending_all (waits (not b) ids) ts) same;
+        gives = λ ids w.
+            let ps : List Part = if shows then map part.place ids else [] in
+            let others : Simples = local_all (waits shows ids) ts in
+            ap (λ b. fed_all w (parts_of is_rich n (more (put_if (not b) ids (simple.text (s ++ line_feed ∷ [])))
+            (local_all (waits (not b) ids) ts)))) same
+            ∙ (ap (fed_all w) (text-gives ids shows (s ++ line_feed ∷ []) others)
+            ∙ (fold-append fed w ps (run (s ++ line_feed ∷ []) [] false ∷ parts_of is_rich n others)
+            ∙ (ap (λ v. fed_all v (parts_of is_rich n others)) (text-fed (fed_all w ps) s u)
+            ∙ ap (λ v. fed_all (fed v (run (line_feed ∷ []) [] false)) (parts_of is_rich n others))
+            (sym (ap (fed_all w) (text-gives ids shows s none
+            ∙ ap (λ qs. ps ++ run s [] false ∷ qs) (none-parts is_rich n 0))
+            ∙ fold-append fed w ps (run s [] false ∷ []))))));
+      }
 
   parts-more : (t : Simple) (us : Simples) → has is_item t ≡ false
       → parts_of is_rich n (more t us) ≡ (node_of t).whole (here is_rich n) ++ parts_of is_rich n us
@@ -149,28 +195,36 @@ module _ (is_rich : Bool) (n : ℕ) where
 
   more-extended : (t : Simple) (us vs ts : Simples) → has is_item t ≡ false → IsExtended us vs ts
       → IsExtended (more t us) (more t vs) ts
-  more-extended t us vs ts h own =
-      let whole : List Part = (node_of t).whole (here is_rich n) in
-      record {
-        bare = λ b e.
-            let parts = and_parts (is_bare t) (are_bare vs) b in
-            ap (λ x. x && are_bare us) parts.0 ∙ own.bare parts.1 e;
-        spends = λ l. own.spends (left_after l t);
-        said = omega (arith, own.said);
-        kinds = ap (λ x. has is_paragraph t || x) own.kinds
-            ∙ or-assoc (has is_paragraph t) (list_any (has is_paragraph) (list_of vs))
-            (list_any (has is_paragraph) (list_of ts));
-        gives = λ w. ap (fed_all w) (parts-more t us h)
-            ∙ (fold-append fed w whole (parts_of is_rich n us)
-            ∙ (own.gives (fed_all w whole)
-            ∙ ap (λ v. fed_all (fed v (run (line_feed ∷ []) [] false)) (parts_of is_rich n ts))
-            (sym (ap (fed_all w) (parts-more t vs h) ∙ fold-append fed w whole (parts_of is_rich n vs)))));
-      }
+  more-extended t us vs ts h own = record {
+    shape = behind_node t us vs ts own.shape;
+    spends = λ l. own.spends (left_after l t);
+    said = λ w. own.said (written w t);
+    kinds = ap (λ x. has is_paragraph t || x) own.kinds
+        ∙ or-assoc (has is_paragraph t) (list_any (has is_paragraph) (list_of vs))
+        (list_any (has is_paragraph) (list_of ts));
+    waits = λ ids. own.waits (pending ids t);
+    gives = λ ids w.
+        let one : Simple = local ids t in
+        let free : has is_item one ≡ false = kind-local is_item item-inner ids t ∙ h in
+        let whole : List Part = (node_of one).whole (here is_rich n) in
+        let js : List (List ℕ) = pending ids t in
+        ap (fed_all w) (parts-more one (local_all js us) free)
+        ∙ (fold-append fed w whole (parts_of is_rich n (local_all js us))
+        ∙ (own.gives js (fed_all w whole)
+        ∙ ap (λ v. fed_all (fed v (run (line_feed ∷ []) [] false))
+        (parts_of is_rich n (local_all (pending_all js vs) ts)))
+        (sym (ap (fed_all w) (parts-more one (local_all js vs) free)
+        ∙ fold-append fed w whole (parts_of is_rich n (local_all js vs))))));
+  }
+
+less-twice : {u v w : Written} → IsLess u v → IsLess v w → IsLess u w
+less-twice h e = (h.0 ∙ e.0, omega (arith, h.1, e.1))
 
 -- what both cost
-pub both-spent : {p q : ℕ} → (is_rich : Bool) (n j k : ℕ) (us vs ts : Simples) → IsExtended is_rich n us vs ts
-    → AllSpend j p vs → AllSpend k q ts → AllSpend (j + k) (p + q) us
-both-spent is_rich n j k us vs ts own first later = (
+pub both-spent : {f g : Written → Written} → (is_rich : Bool) (n j k : ℕ) (us vs ts : Simples)
+    → IsExtended is_rich n us vs ts
+    → AllSpend j f vs → AllSpend k g ts → AllSpend (j + k) (λ w. g (f w)) us
+both-spent {f} {g} is_rich n j k us vs ts own first later = (
   λ a h.
       let (m, line) = first.0 a (omega (arith, h)) in
       let (i, rest) = later.0 m (omega (arith, h, line.1)) in (
@@ -180,7 +234,7 @@ both-spent is_rich n j k us vs ts own first later = (
           omega (arith, line.1, rest.1),
         ),
       ),
-  omega (arith, first.1, later.1, own.said),
+  λ v w l. less-twice (later.1 (f v) (written_all w vs) (first.1 v w l)) (own.said w),
 )
 
 -- ---- the trees of a line
@@ -246,6 +300,13 @@ module _ (scripting is_rich : Bool) where
     no_item = λ id inside. refl;
   }
 
+  place-steady : (s : List ℕ) → IsSteady (codes "a") (pairs_of_anchor s)
+  place-steady s = record {
+    tree = λ id inside. made id role.Target (pairs_of_anchor s) (shown_of scripting is_rich None inside);
+    is = λ before id inside f fresh. place-at scripting is_rich false before id s inside f;
+    no_item = λ id inside. refl;
+  }
+
   pub steady-line : (xs : Inlines) (b : Bool) (fs : List Format) → are_normal b fs xs ≡ true
       → are_held xs ≡ true → line_shows is_rich xs ≡ true
       → AreSteady (spelled_line xs)
@@ -274,7 +335,10 @@ module _ (scripting is_rich : Bool) where
       element_first spelled.spaced (codes "img") (pairs_of_image a t d) spelled.none (spelled_line xs)
       (image-steady a t d) refl
       (steady-line xs b fs (normal-one b fs (image a t d) xs normal).rest (settled-one (image a t d) xs h).rest formats)
-  steady-line (inline (anchor id) xs) b fs normal h formats = false-true (settled-one (anchor id) xs h).own
+  steady-line (inline (anchor id) xs) b fs normal h formats =
+      element_first spelled.spaced (codes "a") (pairs_of_anchor id) spelled.none (spelled_line xs) (place-steady id)
+      refl
+      (steady-line xs b fs (normal-one b fs (anchor id) xs normal).rest (settled-one (anchor id) xs h).rest formats)
   steady-line (inline line_break xs) b fs normal h formats =
       let rest = steady-line xs b fs (normal-one b fs line_break xs normal).rest (settled-one line_break xs h).rest
       formats in

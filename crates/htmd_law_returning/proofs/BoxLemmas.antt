@@ -1,5 +1,6 @@
 -- A line behind the box of a task: a space stands before what shows first in it.
-use Rattle.std.proofs.Common.{◌≡◌, ℕ, zero, suc, Bool, true, false, not, ◌&&◌, List, [], ◌∷◌, ◌++◌, map, fold, reverse}
+use Rattle.std.proofs.Common.{◌≡◌, ℕ, zero, suc, Bool, true, false, not, ◌&&◌, List, [], ◌∷◌}
+use Rattle.std.proofs.Common.{◌++◌, map, fold, reverse}
 use Rattle.std.proofs.Common.{refl, sym, ap, ◌∙◌, arith, subst, ◌||◌}
 use Rattle.std.specs.List.{list_all}
 use Rattle.std.specs.Str.{chars, is_utf8}
@@ -16,23 +17,30 @@ use Rattle.htmd_document.specs.NormalInlines.{is_text, is_line, is_line_byte, ha
 use Rattle.htmd_document.specs.NormalInlines.{meets, has_none, are_normal, last_passes, ends_with_space, is_break}
 use Rattle.htmd_document.specs.NormalInlines.{is_normal_item}
 use Rattle.htmd_flow.specs.Nesting.{wrapper_of, wrapped, one_inline, joined, in_last, behind}
-use Rattle.htmd_flow.specs.Paragraphs.{Writing, fed, fed_all, after_character}
+use Rattle.htmd_flow.specs.Paragraphs.{Writing, fed, fed_all, after_leaf, anchored, after_character}
 use Rattle.htmd_flow.specs.Parts as part
 use Rattle.htmd_flow.specs.Parts.{run}
 use Rattle.htmd_shown.specs.ShownTexts.{is_shown}
 use Rattle.htmd_shown.specs.Spaces.{no_gap, is_blank_text}
 use Rattle.htmd_law_returning.specs.SettledDocuments.{behind_box, is_settled_line, is_plain_text, is_white_at_break}
 use Rattle.htmd_law_returning.specs.WholeLines.{ends_white_text}
-use Rattle.htmd_law_returning.proofs.HeldLemmas.{are_black_ended, are_held, is_parted, line-held}
+use Rattle.htmd_law_returning.proofs.HeldLemmas.{are_black_ended, are_held, is_parted, behind_anchors, line-held}
 use Rattle.htmd_law_returning.proofs.LineFormLemmas.{IsWhole, whole-inlines, normal-one, settled-one}
-use Rattle.htmd_law_returning.proofs.LineLemmas.{Numbers, unknown, unended, numbered, own_number, numbers_after}
-use Rattle.htmd_law_returning.proofs.LineLemmas.{is_rising, parts_in, IsFed, IsEntry, begin-all, rising-next}
+use Rattle.htmd_law_returning.proofs.LineParts.{Numbers, unknown, unended, numbered, own_number, numbers_after}
+use Rattle.htmd_law_returning.proofs.LineParts.{is_rising, parts_in, rising-next}
+use Rattle.htmd_law_returning.proofs.LineEntryLemmas.{IsFed, IsEntry, IsPlaced}
+use Rattle.htmd_law_returning.proofs.AnchorLeaves.{waiting, places-fed, unparted, leaf-behind}
+use Rattle.htmd_law_returning.proofs.InlineLemmas.{free-none}
+use Rattle.htmd_law_returning.specs.LastingAnchors.{goes_on}
+use Rattle.htmd_law_returning.proofs.LineLemmas.{begin-all}
 use Rattle.htmd_law_returning.proofs.NestLemmas.{IsHole, whole-hole, joined-inner, in-last-inner}
 use Rattle.htmd_law_returning.proofs.PageLemmas.{and-false}
 use Rattle.htmd_law_returning.proofs.RunLemmas.{in_line}
 use Rattle.htmd_law_returning.proofs.TextLemmas.{text-line}
-use Rattle.htmd_law_returning.proofs.StartLemmas.{in_item, clean, false-true, true-false, from-not}
+use Rattle.htmd_law_returning.proofs.StartLemmas.{in_item, clean, false-true, true-false}
 use lib.Utf8.{encode}
+use Rattle.htmd_document.specs.NormalInlines.{anchors_stand_well}
+use Rattle.htmd_law_returning.specs.LastingAnchors.{line_keeps, goes_on, past_gaps}
 
 -- ---- a hole behind the space
 
@@ -168,6 +176,19 @@ unfolding chars encode
 box-entry d more c y h =
     ap (λ x. in_line in_item [] (inline (task d) x) (map wrapper_of more) c no_gap) (space-first (wrapped more y))
 
+-- with anchors behind the space
+box-placed : (d : Bool) → IsPlaced in_item [] (boxed d) [] (past_box d) []
+unfolding chars encode
+box-placed d id ids more c y h =
+    let begun : Inlines = inline (task d) (one_inline (text (space ∷ []))) in
+    let first : after_leaf (waiting (past_box d) (id ∷ ids)) more c y
+    ≡ in_line in_item [] (behind 0 (anchored 0 begun more (id ∷ ids)) more y) (map wrapper_of more) c no_gap =
+    refl in
+    ap (λ v. after_leaf v more c y) (places-fed (past_box d) id ids (unparted (past_box d) refl) refl)
+    ∙ (first
+    ∙ ap (λ x. in_line in_item [] x (map wrapper_of more) c no_gap)
+    (leaf-behind (λ xs. xs) [] whole-hole begun more id ids y))
+
 -- ---- a text without its first space
 
 first-front : (xs : List ℕ) (c : ℕ) (ys : List ℕ)
@@ -187,10 +208,6 @@ tail-utf8 s h =
     let u = IsUtf8-from_is_utf8 (space ∷ s) h in
     is_utf8-from_IsUtf8 s (IsUtf8-drop (space ∷ s) 1 u
     (IsCharBoundary-after_ascii (space ∷ s) 0 u (omega arith) (omega arith)))
-
-right-part : (a b : Bool) → not (a && b) ≡ true → a ≡ true → b ≡ false
-right-part true b h e = from-not b h
-right-part false b h e = false-true e
 
 tail-single : (c : ℕ) (s : List ℕ) → not (has_double_space (space ∷ c ∷ s)) ≡ true
     → not (has_double_space (c ∷ s)) ≡ true
@@ -274,7 +291,8 @@ box-fed d ns [] xs normal held whole rise =
     let next = rising-next (suc (own_number ns)) (numbers_after ns) (text (space ∷ [])) xs first.rest in
     let found = begin-all in_item [] xs false (numbers_after (numbers_after ns))
     (suc (own_number (numbers_after ns))) (boxed d) [] (box-hole d) [] (past_box d) [] (box-entry d)
-    (λ g c r same o ms. refl) whole (normal-one false [] (text (space ∷ [])) xs normal).rest held next.rest in
+    (λ first. box-placed d) free-none (λ g c r same o ms. refl) whole
+    (normal-one false [] (text (space ∷ [])) xs normal).rest held next.rest in
     record {
       inner = found.inner;
       last = found.last;
@@ -286,7 +304,7 @@ box-fed d ns (c ∷ s) xs normal held whole rise =
     let first = rising-next 0 ns (task d) (inline (text (space ∷ c ∷ s)) xs) rise in
     let found = begin-all in_item [] (inline (text (c ∷ s)) xs) false (numbers_after ns)
     (suc (own_number ns)) (boxed d) [] (box-hole d) [] (past_box d) [] (box-entry d)
-    (λ g c r same o ms. refl) whole (tail-normal c s xs normal) held
+    (λ first. box-placed d) free-none (λ g c r same o ms. refl) whole (tail-normal c s xs normal) held
     (text-rising (suc (own_number ns)) (numbers_after ns) (c ∷ s) (space ∷ c ∷ s) xs ∙ first.rest) in
     record {
       inner = found.inner;
@@ -308,7 +326,7 @@ task-fed ns xs own rise =
 
 -- ---- paragraphs
 
-first-is : (c : ℕ) (s : List ℕ) → first_is space (c ∷ s) ≡ true → c ≡ space
+pub first-is : (c : ℕ) (s : List ℕ) → first_is space (c ∷ s) ≡ true → c ≡ space
 first-is c s h = grind (arith, nat_tests, h)
 
 -- something shows behind the space
@@ -321,11 +339,49 @@ behind-some d c [] no_inlines e h =
 behind-some d c [] (inline x xs) e h = refl
 behind-some d c (b ∷ s) xs e h = refl
 
+pub text-keeps : (s : List ℕ) (xs : Inlines) → line_keeps xs ≡ true → line_keeps (inline (text s) xs) ≡ true
+text-keeps s xs h = rw h (either (past_gaps xs))
+  where
+    either : (ys : Inlines) → (not (goes_on (text s) ys) && true) ≡ true
+    either no_inlines = refl
+    either (inline y ys) = refl
+
+-- so are those behind the box
+box-keeps : (d : Bool) (c : ℕ) (s : List ℕ) (xs : Inlines)
+    → line_keeps (inline (task d) (inline (text (c ∷ s)) xs)) ≡ true
+    → line_keeps (behind_box (inline (task d) (inline (text (c ∷ s)) xs))) ≡ true
+box-keeps d c s xs h = text_keeps s (and_parts (not (goes_on (text (c ∷ s)) (past_gaps xs))) (line_keeps xs) inner).1
+  where
+    line : Inlines
+    line = inline (text (c ∷ s)) xs
+
+    inner : line_keeps line ≡ true
+    inner = (and_parts (not (goes_on (task d) (past_gaps line))) (line_keeps line) h).1
+
+    text_keeps : (t : List ℕ) → line_keeps xs ≡ true
+        → line_keeps (behind_box (inline (task d) (inline (text (c ∷ t)) xs))) ≡ true
+    text_keeps [] e = e
+    text_keeps (b ∷ t) e = text-keeps (b ∷ t) xs e
+
+pub box-normal : (d : Bool) (c : ℕ) (s : List ℕ) (xs : Inlines) → c ≡ space
+    → are_normal false [] (inline (text (c ∷ s)) xs) ≡ true
+    → are_normal false [] (behind_box (inline (task d) (inline (text (c ∷ s)) xs))) ≡ true
+box-normal d c [] xs e h = (normal-one false [] (text (c ∷ [])) xs h).rest
+box-normal d c (b ∷ s) xs e h =
+    tail-normal b s xs (sym (ap (λ a. are_normal false [] (inline (text (a ∷ b ∷ s)) xs)) e) ∙ h)
+
+box-stands : (d : Bool) (c : ℕ) (s : List ℕ) (xs : Inlines)
+    → anchors_stand_well (inline (task d) (inline (text (c ∷ s)) xs)) ≡ true
+    → anchors_stand_well (behind_box (inline (task d) (inline (text (c ∷ s)) xs))) ≡ true
+box-stands d c [] xs h = h
+box-stands d c (b ∷ s) xs h = h
+
 pub task-line : (d : Bool) (xs : Inlines) → is_settled_line (behind_box (inline (task d) xs)) ≡ true
-    → is_normal_item (inline (task d) xs) ≡ true → IsTask (inline (task d) xs)
-task-line d no_inlines h n = false-true n
-task-line d (inline (text []) xs) h n = false-true n
-task-line d (inline (text (c ∷ s)) xs) h n =
+    → is_normal_item (inline (task d) xs) ≡ true → anchors_stand_well (inline (task d) xs) ≡ true
+    → line_keeps (inline (task d) xs) ≡ true → IsTask (inline (task d) xs)
+task-line d no_inlines h n stands keeps = false-true n
+task-line d (inline (text []) xs) h n stands keeps = false-true n
+task-line d (inline (text (c ∷ s)) xs) h n stands keeps =
     let line : Inlines = inline (text (c ∷ s)) xs in
     let all = and_parts ((first_is space (c ∷ s) && not (last_passes ends_with_space line))
     && not (last_passes is_break line)) (are_normal false [] line) n in
@@ -334,7 +390,8 @@ task-line d (inline (text (c ∷ s)) xs) h n =
     let own = and_parts (first_is space (c ∷ s)) (not (last_passes ends_with_space line)) ends.0 in
     let same : c ≡ space = first-is c s own.0 in
     let held = and_parts (are_black_ended (behind_box (inline (task d) line)))
-    (are_held (behind_box (inline (task d) line))) (line-held (behind_box (inline (task d) line)) h) in
+    (are_held (behind_box (inline (task d) line))) (line-held (behind_box (inline (task d) line))
+    (box-normal d c s xs same all.1) h (box-stands d c s xs stands) (box-keeps d c s xs keeps)) in
     record {
       first = d;
       spaced = s;
@@ -344,27 +401,30 @@ task-line d (inline (text (c ∷ s)) xs) h n =
       held = held.1;
       whole = whole-inlines (behind_box (inline (task d) line)) (behind-some d c s xs same own.1) held.0;
     }
-task-line d (inline (code s) xs) h n = false-true n
-task-line d (inline (formatted f c) xs) h n = false-true n
-task-line d (inline (link a t c) xs) h n = false-true n
-task-line d (inline (image a t e) xs) h n = false-true n
-task-line d (inline (anchor id) xs) h n = false-true n
-task-line d (inline line_break xs) h n = false-true n
-task-line d (inline (task e) xs) h n = false-true n
+task-line d (inline (code s) xs) h n stands keeps = false-true n
+task-line d (inline (formatted f c) xs) h n stands keeps = false-true n
+task-line d (inline (link a t c) xs) h n stands keeps = false-true n
+task-line d (inline (image a t e) xs) h n stands keeps = false-true n
+task-line d (inline (anchor id) xs) h n stands keeps = false-true n
+task-line d (inline line_break xs) h n stands keeps = false-true n
+task-line d (inline (task e) xs) h n stands keeps = false-true n
 
 -- ---- with the space
 
+text-alone : (s : List ℕ) (xs : Inlines) → goes_on (text s) xs ≡ false
+text-alone s no_inlines = refl
+text-alone s (inline y ys) = refl
+
 text-unparted : (s : List ℕ) (xs : Inlines) → is_parted (text s) xs ≡ false
 text-unparted s no_inlines = refl
-text-unparted s (inline (text t) no_inlines) = refl
-text-unparted s (inline (text t) (inline y ys)) = and-false (is_blank_text t)
+text-unparted s (inline (text t) ys) =
+    ap (λ b. is_blank_text t && b) (text-alone s (behind_anchors ys)) ∙ and-false (is_blank_text t)
 text-unparted s (inline (code t) ys) = refl
 text-unparted s (inline (formatted f c) ys) = refl
 text-unparted s (inline (link a t c) ys) = refl
 text-unparted s (inline (image a t d) ys) = refl
-text-unparted s (inline (anchor id) ys) = refl
-text-unparted s (inline line_break no_inlines) = refl
-text-unparted s (inline line_break (inline y ys)) = refl
+text-unparted s (inline (anchor id) ys) = text-alone s (behind_anchors ys)
+text-unparted s (inline line_break ys) = text-alone s (behind_anchors ys)
 text-unparted s (inline (task d) ys) = refl
 
 space-plain : is_plain_text (space ∷ []) ≡ true

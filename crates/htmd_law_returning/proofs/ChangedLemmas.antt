@@ -1,5 +1,6 @@
 -- What stays where a document has other addresses.
-use Rattle.std.proofs.Common.{◌≡◌, ℕ, suc, ◌==◌, Bool, true, false, not, ◌&&◌, ◌||◌, List, [], ◌∷◌, length, map}
+use Rattle.std.proofs.Common.{◌≡◌, ℕ, suc, ◌==◌, Bool, true, false, not, ◌&&◌, ◌||◌, List, []}
+use Rattle.std.proofs.Common.{◌∷◌, length, map}
 use Rattle.std.proofs.Common.{Option, refl}
 use Rattle.std.proofs.Common.{ap}
 use Rattle.std.specs.List.{list_all, list_any}
@@ -258,7 +259,7 @@ module _ (change : List ℕ → List ℕ) where
     elements-same no_blocks = refl
     elements-same (block b bs) = rw (block-elements b, elements-same bs) refl
 
-    pub item-elements : (items : Items)
+    item-elements : (items : Items)
         → items_have_no_elements (changed_items change items) ≡ items_have_no_elements items
     item-elements no_items = refl
     item-elements (item bs rest) = rw (elements-same bs, item-elements rest) refl

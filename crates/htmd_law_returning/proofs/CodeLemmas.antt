@@ -1,7 +1,8 @@
 -- Code blocks: the text of one as a page shows it, and the language that its class names.
 use Rattle.std.proofs.Common.{◌≡◌, ℕ, Bool, true, false, not, ◌&&◌, ◌||◌, ◌==◌, cond, List, []}
 use Rattle.std.proofs.Common.{◌∷◌, ◌++◌, refl, sym}
-use Rattle.std.proofs.Common.{ap, ◌∙◌, arith, codes, length, length-append, ◌+◌, ◌≤◌, filter, encode_utf8_all, Option, Some, None}
+use Rattle.std.proofs.Common.{ap, ◌∙◌, arith, codes, length, length-append, ◌+◌, ◌≤◌, filter}
+use Rattle.std.proofs.Common.{encode_utf8_all, Option, Some, None}
 use Rattle.std.specs.Prelude.{nat_le, flat_map}
 use Rattle.std.specs.Option.{option_or}
 use Rattle.std.specs.List.{list_all, list_any, slice_split, onto_first}
@@ -33,6 +34,8 @@ use Rattle.htmd_law_returning.specs.SettledDocuments.{is_settled_code, has_settl
 use Rattle.htmd_law_returning.proofs.BareLemmas.{has_no_name}
 use Rattle.htmd_law_returning.proofs.StartLemmas.{true-false, from-not}
 use lib.Utf8.{encode}
+use Rattle.htmd_lexical.proofs.Cases.{test}
+use Rattle.htmd_shown.specs.Marks.{is_seen, letters}
 
 -- ---- the text
 
@@ -72,6 +75,20 @@ pub record IsShownCode (s : List ℕ) : Type 0 where
   pub feeds : with_line_feeds (with_end s) ≡ with_end s
   pub cut : without_last_line_feed (with_end s) ≡ s
   pub longer : characters s ≤ characters (with_end s)
+  pub seen : is_filled (letters (with_end s)) ≡ true
+
+-- not white space alone
+some-seen : (cs : List ℕ) → list_all is_shown cs ≡ true → list_all is_white cs ≡ false
+    → is_filled (filter is_seen cs) ≡ true
+some-seen [] h e = true-false e
+some-seen (c ∷ cs) h e =
+    let parts = and_parts (is_shown c) (list_all is_shown cs) h in
+    test (is_white c)
+    (λ w. rw (parts.0, w) (some-seen cs parts.1 (sym (ap (λ b. b && list_all is_white cs) w) ∙ e)))
+    (λ w. rw (parts.0, w) (some-filled c (filter is_seen cs)))
+  where
+    some-filled : (b : ℕ) (bs : List ℕ) → is_filled (b ∷ bs) ≡ true
+    some-filled b bs = grind (arith, nat_tests)
 
 code-tree : (s : List ℕ) → is_blank_text s ≡ false
     → value_forest (code_trees s) ≡ value.more (value.text (with_end s)) value.none
@@ -101,6 +118,8 @@ code-shows s settled normal =
       cut = feed_cut s;
       longer = longer (chars s) (chars (with_end s))
           (ap length cs ∙ length-append (chars s) (line_feed ∷ []));
+      seen = some-seen (chars (with_end s)) all (ap (list_all is_white) cs
+          ∙ (list_all-append is_white (chars s) (line_feed ∷ []) ∙ ap (λ b. b && true) black));
     }
   where
     longer : (s t : List ℕ) → length t ≡ length s + 1 → length s ≤ length t

@@ -1,6 +1,7 @@
 -- Both laws in one: what the reader of any page makes of the HTML is the page of what is read, and that has the
 -- document that one sees.
-use Rattle.std.proofs.Common.{◌≡◌, Bool, true, false, not, ◌||◌, List, [], ◌∷◌, refl, sym, ap, ◌∙◌, subst}
+use Rattle.std.proofs.Common.{◌≡◌, Bool, true, false, not, ◌||◌, List, [], ◌∷◌, refl, sym, ap}
+use Rattle.std.proofs.Common.{◌∙◌, subst}
 use Rattle.std.specs.List.{list_all}
 use Rattle.std.proofs.lemmas.Bool.{and_from}
 use Rattle.std.proofs.lemmas.List.{append-nil}
@@ -104,12 +105,12 @@ page-fitted true b h = h
 page-fitted false b h = refl
 
 pub come-back : DocumentsAreParsed → SettledComeBack
-come-back parsed which scripting is_rich options d normal few fits settled unanchored formats tables =
+come-back parsed which scripting is_rich options d normal few fits settled stay formats tables =
     ap (λ items. document_of_tree which (whole_sight scripting is_rich) (tree_of items 0))
     (parsed scripting options d normal few fits)
     ∙ returned which scripting is_rich (reading_of options d) d
     (blocks-described (reading_of options d) (plain-reading options d normal few))
     (seen-flat options d normal few)
-    normal settled unanchored formats tables
+    normal settled stay formats tables
     (page-fitted is_rich (blocks_have_fitted_rows (reading_of options d))
     (blocks-fitted (reading_of options d) (plain-reading options d normal few)))

@@ -1,125 +1,57 @@
--- The trees of elements: what is read has their tags in lines, and its trees are those of the document.
-use Rattle.std.proofs.Common.{◌≡◌, ℕ, Bool, true, false, not, ◌&&◌, ◌||◌, refl, sym, ap, ◌∙◌, List, []}
+-- The trees of elements: flat documents have their tags in lines, and their trees are those of the document.
+use Rattle.std.proofs.Common.{◌≡◌, ℕ, Bool, true, false, ◌||◌, refl, sym, ap, ◌∙◌, List, []}
 use Rattle.std.proofs.Common.{◌∷◌, ◌++◌, Option, Some, None, codes, subst}
-use Rattle.std.specs.Prelude.{is_some}
 use Rattle.std.specs.List.{list_all}
-use Rattle.std.proofs.lemmas.Bool.{and_parts, and_from}
+use Rattle.std.proofs.lemmas.Bool.{and_parts}
 use Rattle.htmd_lexical.specs.Characters.{line_feed}
 use Rattle.htmd_lexical.proofs.Cases.{test}
 use Rattle.htmd_grammar.specs.Nesting.{is_table}
 use Rattle.htmd_grammar.proofs.NestingLemmas.{one_name}
-use Rattle.htmd_document.specs.Documents.{Block, paragraph, heading, code_block, quote, thematic_break, list}
+use Rattle.htmd_document.specs.Documents.{Inlines, Block, paragraph, heading, code_block, quote, thematic_break, list}
 use Rattle.htmd_document.specs.Documents.{table, element, tags, Blocks, no_blocks, block, Items, no_items, item}
-use Rattle.htmd_document.specs.Documents.{BlockAttribute}
+use Rattle.htmd_document.specs.Documents.{BlockAttribute, text, no_inlines, inline}
 use Rattle.htmd_document.specs.declared.document.BlockElement.{BlockElement}
 use Rattle.htmd_document.specs.declared.document.BlockElement.TheVariants as an
 use Rattle.htmd_document.specs.FlatDocuments.{line_before, element_before, flat_before, flat_all, flattened}
-use Rattle.htmd_document.specs.FlatDocuments.{lines_of, text_in_line}
+use Rattle.htmd_document.specs.FlatDocuments.{flat_items, text_in_line}
 use Rattle.htmd_document.specs.NormalDocuments.{is_normal_block, are_normal_blocks, is_normal_element, may_be_empty}
-use Rattle.htmd_document.specs.NormalInlines.{is_attribute}
-use Rattle.htmd_document.specs.Tags.{element_name, element_tag, end_of_element}
+use Rattle.htmd_document.specs.NormalDocuments.{are_normal_items, is_normal_list}
+use Rattle.htmd_document.specs.NormalInlines.{is_attribute, is_kept}
+use Rattle.htmd_document.specs.Tags.{element_name, element_tag, end_of_element, element_line}
 use Rattle.htmd_document.specs.TightItems.{is_filled}
 use Rattle.htmd_commonmark_reading.specs.Elements as lines
 use Rattle.htmd_commonmark_reading.specs.Elements.{line_of}
 use Rattle.htmd_commonmark_reading.specs.Markup as markup
 use Rattle.htmd_law_blocks.proofs.TextsLemmas.{IsClean, written_one, written_last}
-use Rattle.htmd_law_texts.proofs.TagTexts.{tag_line, end_line, tag_clean}
-use Rattle.htmd_law_texts.proofs.NestedLines.{opening_read, closing_read}
-use Rattle.htmd_law_rendering.specs.PlainReadings.{block_has_no_elements, blocks_have_no_elements}
-use Rattle.htmd_law_rendering.specs.PlainReadings.{items_have_no_elements}
-use Rattle.htmd_law_rendering.specs.RenderedTrees.{Open, onto, with_line, with_lines, line_end}
-use Rattle.htmd_law_rendering.specs.RenderedTrees.{lines_before, block_trees, blocks_open, blocks_trees}
-use Rattle.htmd_law_rendering.specs.RenderedTrees.{pairs_of_element, with_raw, bounds_section}
+use Rattle.htmd_law_texts.proofs.FlatForm.{in_line_cases, text_is_kept}
+use Rattle.htmd_law_texts.proofs.TagTexts.{tag_line, end_line, whole_line, tag_clean}
+use Rattle.htmd_law_texts.proofs.NestedLines.{opening_read, closing_read, whole_read}
+use Rattle.htmd_law_rendering.specs.RenderedTrees.{Open, onto, with_line, with_lines, line_end, lines_before}
+use Rattle.htmd_law_rendering.specs.RenderedTrees.{sectioned, section_name}
+use Rattle.htmd_law_rendering.specs.RenderedTrees.{list_name, pairs_of_start, blocks_trees}
+use Rattle.htmd_law_rendering.specs.RenderedTrees.{pairs_of_element, with_raw, bounds_section, is_caption}
 use Rattle.htmd_law_rendering.specs.RawTags.{opening, closing}
 use Rattle.htmd_law_rendering.specs.SpelledTrees as trees
 use Rattle.htmd_law_rendering.specs.SpelledTrees.{SpelledForest}
-use Rattle.htmd_law_rendering.proofs.DocumentLemmas.{same-flat, same-items}
-use Rattle.htmd_law_returning.specs.SettledDocuments.{is_settled_block, are_settled_blocks, is_settled_element}
-use Rattle.htmd_law_returning.specs.SettledDocuments.{is_open_at_most, is_right_list, are_settled_items}
-use Rattle.htmd_law_returning.proofs.RawReadings.{block_has_no_raw, blocks_have_no_raw}
-use Rattle.htmd_law_returning.proofs.StartLemmas.{false-true, true-false}
-use Rattle.htmd_law_returning.proofs.BlockTrees.{page_block, page_blocks, cut_block, cut_blocks, cut_items}
-use Rattle.htmd_law_returning.proofs.BlockTrees.{spelled_before, spelled_in, spelled_before_line, tree-from, line-apart}
-
--- ---- the trees of flat documents
-
--- other trees in the place of those behind the first; and they begin a line
-abbrev tail_of : SpelledForest → SpelledForest → SpelledForest
-tail_of trees.none ts = trees.none
-tail_of (trees.more t us) ts = trees.more t ts
-
-abbrev with_tail : SpelledForest → SpelledForest → SpelledForest
-with_tail us ts = tail_of us (line_end ts)
-
-abbrev mutual
-  own_trees : Block → SpelledForest
-  own_trees (quote bs) = lines_before (codes "blockquote") [] (flat_open bs).first trees.none
-  own_trees b = spelled_before b trees.none
-
-  -- trees, and those behind end tags that nothing before them opens
-  flat_open : Blocks → Open
-  flat_open no_blocks = record { first = trees.none; behind = [] }
-  flat_open (block (tags s) bs) = with_lines (lines_of s) (flat_open bs)
-  flat_open (block b bs) = onto (with_tail (own_trees b)) (flat_open bs)
-
--- settled and normal, but for tags
-abbrev mutual
-  is_good : Block → Bool
-  is_good (quote bs) = are_good bs
-  is_good (tags s) = true
-  is_good b = is_settled_block b && is_normal_block false b
-
-  are_good : Blocks → Bool
-  are_good no_blocks = true
-  are_good (block b bs) = is_good b && are_good bs
-
--- the trees of a block that is no tags
-plain-tree : (b : markup.Block) → block_has_no_raw b ≡ true
-    → (is_settled_block (cut_block (page_block b)) && is_normal_block false (cut_block (page_block b))) ≡ true
-    → block_trees false b trees.none ≡ spelled_before (page_block b) trees.none
-plain-tree b h good =
-    let parts = and_parts (is_settled_block (cut_block (page_block b)))
-    (is_normal_block false (cut_block (page_block b))) good in
-    tree-from b false trees.none h parts.0 parts.1 refl
-
-mutual
-  -- the trees of what is read
-  pub open-from : (bs : markup.Blocks) → blocks_have_no_raw bs ≡ true
-      → are_good (cut_blocks (page_blocks bs)) ≡ true
-      → blocks_open false false bs ≡ flat_open (page_blocks bs)
-  open-from markup.no_blocks h good = refl
-  open-from (markup.block b bs) h good =
-      let raw = and_parts (block_has_no_raw b) (blocks_have_no_raw bs) h in
-      let own = and_parts (is_good (cut_block (page_block b))) (are_good (cut_blocks (page_blocks bs))) good in
-      one-from b bs raw.0 own.0 (open-from bs raw.1 own.1)
-
-  one-from : (b : markup.Block) (bs : markup.Blocks) → block_has_no_raw b ≡ true
-      → is_good (cut_block (page_block b)) ≡ true → blocks_open false false bs ≡ flat_open (page_blocks bs)
-      → blocks_open false false (markup.block b bs) ≡ flat_open (page_blocks (markup.block b bs))
-  one-from (markup.paragraph xs) bs h good e =
-      ap (onto (block_trees false (markup.paragraph xs))) e
-      ∙ ap (λ us. onto (with_tail us) (flat_open (page_blocks bs)))
-      (plain-tree (markup.paragraph xs) h good)
-  one-from (markup.heading level xs) bs h good e =
-      ap (onto (block_trees false (markup.heading level xs))) e
-      ∙ ap (λ us. onto (with_tail us) (flat_open (page_blocks bs)))
-      (plain-tree (markup.heading level xs) h good)
-  one-from (markup.code_block language s) bs h good e =
-      ap (onto (block_trees false (markup.code_block language s))) e
-  one-from (markup.quote content) bs h good e =
-      ap (onto (block_trees false (markup.quote content))) e
-      ∙ ap (λ o. onto (with_tail (lines_before (codes "blockquote") [] o.first trees.none))
-      (flat_open (page_blocks bs))) (open-from content h good)
-  one-from markup.thematic_break bs h good e = ap (onto (block_trees false markup.thematic_break)) e
-  one-from (markup.list start is_tight items) bs h good e =
-      ap (onto (block_trees false (markup.list start is_tight items))) e
-      ∙ ap (λ us. onto (with_tail us) (flat_open (page_blocks bs)))
-      (plain-tree (markup.list start is_tight items) h good)
-  one-from (markup.table alignments header rows) bs h good e =
-      ap (onto (block_trees false (markup.table alignments header rows))) e
-      ∙ ap (λ us. onto (with_tail us) (flat_open (page_blocks bs)))
-      (plain-tree (markup.table alignments header rows) h good)
-  one-from (markup.html_block s) bs h good e = ap (with_lines (lines_of s)) e
+use Rattle.htmd_law_returning.specs.SettledDocuments.{are_settled_blocks}
+use Rattle.htmd_law_returning.specs.SettledDocuments.{is_right_list, are_settled_items}
+use Rattle.htmd_law_returning.proofs.RawReadings.{blocks_have_no_raw}
+use Rattle.htmd_law_returning.proofs.ElementForms.{is_settled_alone, are_settled_alone, settled-alone}
+use Rattle.htmd_law_returning.proofs.ElementForms.{is_bounded, rows-long}
+use Rattle.htmd_law_returning.proofs.SectionTrees.{is_outside, no-section, inside-plain, rows-apart, table-closing}
+use Rattle.htmd_law_returning.proofs.SectionTrees.{table-opening, is_element_table, IsOutside, rows-outside}
+use Rattle.htmd_law_returning.proofs.SectionTrees.{rest-outside, first-outside}
+use Rattle.htmd_law_returning.proofs.BlockTrees.{spelled_inside}
+use Rattle.htmd_law_returning.proofs.BlockTrees.{spelled_element, element-apart}
+use Rattle.htmd_law_returning.proofs.StartLemmas.{false-true, true-false, from-not}
+use Rattle.htmd_law_returning.proofs.ListLemmas.{before-filled}
+use Rattle.htmd_law_returning.proofs.LineEndLemmas.{ended_before}
+use Rattle.htmd_law_returning.proofs.TreesLemmas.{spelled_line}
+use Rattle.htmd_law_returning.proofs.BlockTrees.{page_blocks, cut_block, cut_blocks, cut_items, behind_both, item_trees}
+use Rattle.htmd_law_returning.proofs.BlockTrees.{spelled_before, spelled_in, spelled_items, spelled_before_line}
+use Rattle.htmd_law_returning.proofs.BlockTrees.{line-apart, items-apart, spelled_element, element-apart}
+use Rattle.htmd_law_returning.proofs.FlatTrees.{tail_of, with_tail, flat_item, flat_open, item_trees_of}
+use Rattle.htmd_law_returning.proofs.FlatTrees.{are_good, flat-good, open-from}
 
 -- ---- lines of tags
 
@@ -169,31 +101,11 @@ onto-apart (block (quote content) bs) ts e = refl
 onto-apart (block thematic_break bs) ts e = refl
 onto-apart (block (list start is_tight items) bs) ts e = refl
 onto-apart (block (table alignments header rows) bs) ts e = refl
-onto-apart (block (element name attributes content) bs) ts e = refl
+onto-apart (block (element name attributes content) bs) ts e =
+    element-apart name attributes (text_in_line content) (spelled_inside name (spelled_in content)) (trees_onto bs ts)
 onto-apart (block (tags s) bs) ts e = refl
 
--- what a page cuts off is no element
-mutual
-  cut-elements : (b : Block) → block_has_no_elements (cut_block b) ≡ block_has_no_elements b
-  cut-elements (paragraph xs) = refl
-  cut-elements (heading level xs) = refl
-  cut-elements (code_block language s) = refl
-  cut-elements (quote content) = cut-none content
-  cut-elements thematic_break = refl
-  cut-elements (list start is_tight items) = cut-items items
-  cut-elements (table alignments header rows) = refl
-  cut-elements (element name attributes content) = refl
-  cut-elements (tags s) = refl
-
-  cut-none : (bs : Blocks) → blocks_have_no_elements (cut_blocks bs) ≡ blocks_have_no_elements bs
-  cut-none no_blocks = refl
-  cut-none (block b bs) = rw (cut-elements b, cut-none bs) refl
-
-  cut-items : (items : Items) → items_have_no_elements (cut_items items) ≡ items_have_no_elements items
-  cut-items no_items = refl
-  cut-items (item bs rest) = rw (cut-none bs, cut-items rest) refl
-
-cut-text : (bs : Blocks) → text_in_line (cut_blocks bs) ≡ text_in_line bs
+pub cut-text : (bs : Blocks) → text_in_line (cut_blocks bs) ≡ text_in_line bs
 cut-text no_blocks = refl
 cut-text (block (paragraph xs) no_blocks) = refl
 cut-text (block (heading level xs) no_blocks) = refl
@@ -206,41 +118,24 @@ cut-text (block (element name attributes content) no_blocks) = refl
 cut-text (block (tags s) no_blocks) = refl
 cut-text (block b (block c bs)) = refl
 
-no-text : (o : Option (List ℕ)) → not (is_some o) ≡ true → o ≡ None
-no-text None h = refl
-no-text (Some s) h = false-true h
-
--- a settled element: a `details` around blocks
-record IsDetails (name : BlockElement) (attributes : List BlockAttribute) (content : Blocks) : Type 0 where
-  apart : bounds_section (element_name name) ≡ false
+-- a settled element
+record IsElement (name : BlockElement) (attributes : List BlockAttribute) (content : Blocks) : Type 0 where
+  bounded : is_bounded name content ≡ true
   values : list_all (λ a. is_attribute a.value) attributes ≡ true
-  long : text_in_line content ≡ None
-  settled : are_settled_blocks content ≡ true
+  settled : are_settled_alone content ≡ true
   normal : are_normal_blocks false content ≡ true
 
-settled-long : (name : BlockElement) (attributes : List BlockAttribute) (content : Blocks)
-    → is_settled_element name attributes content ≡ true → text_in_line content ≡ None
-settled-long an.Details attributes content h =
-    no-text (text_in_line content) (and_parts (is_open_at_most attributes) (not (is_some (text_in_line content))) h).1
-settled-long name attributes content h = false-true h
-
-settled-apart : (name : BlockElement) (attributes : List BlockAttribute) (content : Blocks)
-    → is_settled_element name attributes content ≡ true → bounds_section (element_name name) ≡ false
-settled-apart an.Details attributes content h = refl
-settled-apart name attributes content h = false-true h
-
-details : (name : BlockElement) (attributes : List BlockAttribute) (content : Blocks)
-    → is_settled_block (element name attributes content) ≡ true
-    → is_normal_block false (element name attributes content) ≡ true → IsDetails name attributes content
-details name attributes content settled normal =
-    let good = and_parts (is_settled_element name attributes content) (are_settled_blocks content) settled in
+element-form : (name : BlockElement) (attributes : List BlockAttribute) (content : Blocks)
+    → is_settled_alone (element name attributes content) ≡ true
+    → is_normal_block false (element name attributes content) ≡ true → IsElement name attributes content
+element-form name attributes content settled normal =
+    let good = and_parts (is_bounded name content) (are_settled_alone content) settled in
     let form = and_parts (is_normal_element name attributes content) (are_normal_blocks false content) normal in
     let own = and_parts (list_all (λ a. is_attribute a.value) attributes) (is_filled content || may_be_empty name)
     form.0 in
     record {
-      apart = settled-apart name attributes content good.0;
+      bounded = good.0;
       values = own.0;
-      long = settled-long name attributes content good.0;
       settled = good.1;
       normal = form.1;
     }
@@ -249,12 +144,18 @@ details name attributes content settled normal =
 abbrev behind_own : Block → Blocks → SpelledForest → Open
 behind_own b r us = record (flat_open r) { first = tail_of (spelled_before b trees.none) us }
 
+no-caption : (n : List ℕ) → bounds_section n ≡ false → is_caption n ≡ false
+no-caption n h =
+    test (is_caption n)
+    (λ t. let w = one_name (codes "caption") n t in
+    true-false (subst (λ m. bounds_section m ≡ false) w h)) (λ t. t)
+
 -- tags that bound no section
 plain-opening : (name : BlockElement) (attributes : List BlockAttribute) (o : Open)
     → bounds_section (element_name name) ≡ false
     → with_line (lines.opening name attributes) o
     ≡ with_raw (opening (element_name name) (pairs_of_element attributes)) (onto line_end o)
-plain-opening name attributes o h = rw h refl
+plain-opening name attributes o h = rw (h, no-caption (element_name name) h) refl
 
 plain-closing : (name : BlockElement) (o : Open) → bounds_section (element_name name) ≡ false
     → with_line (lines.closing name) o ≡ with_raw (closing (element_name name)) (onto line_end o)
@@ -268,7 +169,7 @@ element-ends : (name : BlockElement) (attributes : List BlockAttribute) (content
     → bounds_section (element_name name) ≡ false → IsApart (flat_open r).first
     → with_line (lines.opening name attributes) (onto (trees_onto content)
     (with_line (lines.closing name) (flat_open r)))
-    ≡ onto (spelled_before (element name attributes content)) (flat_open r)
+    ≡ onto (spelled_element name attributes None (spelled_inside name (spelled_in content))) (flat_open r)
 element-ends name attributes content r h e =
     let o = flat_open r in
     let n = element_name name in
@@ -282,96 +183,249 @@ element-ends name attributes content r h e =
     (plain-closing name o h)
     ∙ ap (λ us. tree (line_end us) (line_end o.first)) (onto-none content)
     ∙ (ap (λ us. tree us (line_end o.first)) (line-apart content)
-    ∙ ap (tree (spelled_before_line (spelled_in content))) e)
+    ∙ (ap (tree (spelled_before_line (spelled_in content))) e
+    ∙ ap (λ us. tree (spelled_before_line us) (spelled_before_line o.first))
+    (sym (inside-plain name (spelled_in content) h))))
+
+-- an element around a text alone
+whole-ends : (name : BlockElement) (attributes : List BlockAttribute) (s : List ℕ) (content : SpelledForest)
+    (r : Blocks)
+    → bounds_section (element_name name) ≡ false → IsApart (flat_open r).first
+    → with_line (lines.whole name attributes s) (flat_open r)
+    ≡ onto (spelled_element name attributes (Some s) content) (flat_open r)
+whole-ends name attributes s content r h e =
+    let o = flat_open r in
+    let tree : SpelledForest → Open = λ ts. record {
+      first = trees.more (trees.lone (element_name name) (pairs_of_element attributes) s) ts;
+      behind = o.behind;
+    } in
+    plain-whole ∙ ap tree e
+  where
+    plain-whole : with_line (lines.whole name attributes s) (flat_open r)
+        ≡ onto (λ ts. trees.more (trees.lone (element_name name) (pairs_of_element attributes) s) (line_end ts))
+        (flat_open r)
+    plain-whole = rw (h, no-caption (element_name name) h) refl
+
+-- in one line or in more
+element-flat : (name : BlockElement) (attributes : List BlockAttribute) (content r : Blocks)
+    → IsElement name attributes (cut_blocks content) → bounds_section (element_name name) ≡ false
+    → IsApart (flat_open r).first
+    → (IsApart (flat_open (line_before (end_of_element name) r)).first
+    → is_outside (flat_open (line_before (end_of_element name) r)).behind ≡ true
+    → flat_open (flat_all content (line_before (end_of_element name) r))
+    ≡ onto (trees_onto content) (flat_open (line_before (end_of_element name) r)))
+    → flat_open (flat_before (element name attributes content) r)
+    ≡ onto (spelled_before (element name attributes content)) (flat_open r)
+element-flat name attributes content r own apart e inner =
+    subst IsFlat (cut-text content)
+    (in_line_cases (λ c t. IsFlat t) (cut_blocks content) own.normal (in_line [] refl)
+    (λ s k. in_line s (text_is_kept s k)) (λ c n. in_lines))
+  where
+    IsFlat : Option (List ℕ) → Type 0
+    IsFlat t =
+        flat_open (element_before name attributes t (flat_all content (line_before (end_of_element name) r)) r)
+        ≡ onto (spelled_element name attributes t (spelled_inside name (spelled_in content))) (flat_open r)
+
+    in_line : (s : List ℕ) → list_all is_kept s ≡ true → IsFlat (Some s)
+    in_line s k =
+        line-open (element_line name attributes s) r
+        (tag_clean (element_line name attributes s) (whole_line name attributes s own.values k))
+        ∙ (ap (λ l. with_line l (flat_open r)) (whole_read name attributes s)
+        ∙ whole-ends name attributes s (spelled_inside name (spelled_in content)) r apart e)
+
+    in_lines : IsFlat None
+    in_lines =
+        let last = line_before (end_of_element name) r in
+        let closed : flat_open last ≡ with_line (lines.closing name) (flat_open r) =
+        line-open (end_of_element name) r (tag_clean (end_of_element name) (end_line name))
+        ∙ ap (λ l. with_line l (flat_open r)) (closing_read name) in
+        let inside : flat_open (flat_all content last) ≡ onto (trees_onto content) (flat_open last) =
+        inner (subst (λ (o : Open). IsApart o.first)
+        (sym (closed ∙ plain-closing name (flat_open r) apart)) refl)
+        (subst (λ (o : Open). is_outside o.behind ≡ true)
+        (sym (closed ∙ plain-closing name (flat_open r) apart)) (no-section name)) in
+        line-open (element_tag name attributes) (flat_all content last)
+        (tag_clean (element_tag name attributes) (tag_line name attributes own.values))
+        ∙ (ap (λ l. with_line l (flat_open (flat_all content last))) (opening_read name attributes)
+        ∙ (ap (with_line (lines.opening name attributes)) (inside ∙ ap (onto (trees_onto content)) closed)
+        ∙ element-ends name attributes content r apart e))
+
+-- a table: its rows are in a section
+table-flat : (attributes : List BlockAttribute) (content r : Blocks)
+    → IsElement an.Table attributes (cut_blocks content) → text_in_line content ≡ None
+    → IsApart (flat_open r).first → is_outside (flat_open r).behind ≡ true
+    → (IsApart (flat_open (line_before (end_of_element an.Table) r)).first
+    → flat_open (flat_all content (line_before (end_of_element an.Table) r))
+    ≡ onto (trees_onto content) (flat_open (line_before (end_of_element an.Table) r)))
+    → flat_open (flat_before (element an.Table attributes content) r)
+    ≡ onto (spelled_before (element an.Table attributes content)) (flat_open r)
+table-flat attributes content r own long e outside inner =
+    let o = flat_open r in
+    let last = line_before (end_of_element an.Table) r in
+    let ended : Open = record {
+      first = trees.none;
+      behind = record { name = section_name; trees = trees.none } ∷ record {
+        name = codes "table";
+        trees = line_end o.first;
+      } ∷ o.behind;
+    } in
+    let closed : flat_open last ≡ ended =
+    line-open (end_of_element an.Table) r (tag_clean (end_of_element an.Table) (end_line an.Table))
+    ∙ (ap (λ l. with_line l o) (closing_read an.Table) ∙ table-closing o outside) in
+    let inside : flat_open (flat_all content last) ≡ onto (trees_onto content) (flat_open last) =
+    inner (subst (λ (p : Open). IsApart p.first) (sym closed) refl) in
+    let tree : SpelledForest → SpelledForest → Open = λ us ts. record {
+      first = trees.more (trees.element trees.spaced (codes "table") (pairs_of_element attributes) us) ts;
+      behind = o.behind;
+    } in
+    ap (λ t. flat_open (element_before an.Table attributes t (flat_all content last) r)) long
+    ∙ (line-open (element_tag an.Table attributes) (flat_all content last)
+    (tag_clean (element_tag an.Table attributes) (tag_line an.Table attributes own.values))
+    ∙ (ap (λ l. with_line l (flat_open (flat_all content last))) (opening_read an.Table attributes)
+    ∙ (ap (with_line (lines.opening an.Table attributes)) (inside ∙ ap (onto (trees_onto content)) closed)
+    ∙ (table-opening attributes (trees_onto content trees.none) (line_end o.first) o.behind
+    ∙ (ap (λ us. tree (line_end (sectioned us trees.none)) (line_end o.first)) (onto-none content)
+    ∙ (ap (λ us. tree us (line_end o.first)) (rows-apart content)
+    ∙ (ap (tree (spelled_before_line (sectioned (spelled_in content) trees.none))) e
+    ∙ ap (λ t. onto (spelled_element an.Table attributes t (sectioned (spelled_in content) trees.none)) o)
+    (sym long))))))))
+
+table-filled : (attributes : List BlockAttribute) (content : Blocks)
+    → is_normal_block false (element an.Table attributes content) ≡ true → is_filled content ≡ true
+table-filled attributes content normal =
+    let form = and_parts (is_normal_element an.Table attributes content) (are_normal_blocks false content) normal in
+    or-none (is_filled content)
+    (and_parts (list_all (λ a. is_attribute a.value) attributes) (is_filled content || false) form.0).1
+  where
+    or-none : (b : Bool) → (b || false) ≡ true → b ≡ true
+    or-none true h = refl
+    or-none false h = false-true h
+
+-- ---- items
+
+line-item : (line : List ℕ) (rest : Blocks) (ts : SpelledForest)
+    → flat_item true (line_before line rest) ts ≡ line_end ts
+line-item line (block (tags s) bs) ts = refl
+line-item line rest ts = refl
+
+element-item : (name : BlockElement) (attributes : List BlockAttribute) (t : Option (List ℕ)) (inner rest : Blocks)
+    (ts : SpelledForest) → flat_item true (element_before name attributes t inner rest) ts ≡ line_end ts
+element-item name attributes None inner rest ts = line-item (element_tag name attributes) inner ts
+element-item name attributes (Some s) inner rest ts = line-item (element_line name attributes s) rest ts
+
+loose-flat : (d : Blocks) (ts : SpelledForest) → is_filled d ≡ true → flat_item false d ts ≡ line_end ts
+loose-flat no_blocks ts h = false-true h
+loose-flat (block b bs) ts h = refl
+
+line-flat : (xs : Inlines) (d : Blocks) (ts : SpelledForest) → is_filled d ≡ true
+    → flat_item true (block (paragraph xs) d) ts ≡ ended_before (behind_both ts) (spelled_line xs)
+line-flat xs no_blocks ts h = false-true h
+line-flat xs (block b bs) ts h = refl
+
+-- what is in an item is in a flat one
+same-item : (is_tight : Bool) (bs : Blocks)
+    → flat_item is_tight (flattened bs) (spelled_in bs) ≡ item_trees is_tight bs (spelled_in bs)
+same-item is_tight no_blocks = refl
+same-item false (block b bs) =
+    loose-flat (flattened (block b bs)) (spelled_in (block b bs)) (before-filled b (flattened bs))
+    ∙ line-apart (block b bs)
+same-item true (block (paragraph xs) no_blocks) = refl
+same-item true (block (paragraph xs) (block b bs)) =
+    line-flat xs (flattened (block b bs)) (spelled_in (block (paragraph xs) (block b bs)))
+    (before-filled b (flattened bs))
+same-item true (block (heading level xs) bs) = line-apart (block (heading level xs) bs)
+same-item true (block (code_block language s) bs) = line-apart (block (code_block language s) bs)
+same-item true (block (quote content) bs) = line-apart (block (quote content) bs)
+same-item true (block thematic_break bs) = line-apart (block thematic_break bs)
+same-item true (block (list start is_tight items) bs) = line-apart (block (list start is_tight items) bs)
+same-item true (block (table alignments header rows) bs) = line-apart (block (table alignments header rows) bs)
+same-item true (block (element name attributes content) bs) =
+    element-item name attributes (text_in_line content)
+    (flat_all content (line_before (end_of_element name) (flattened bs))) (flattened bs)
+    (spelled_in (block (element name attributes content) bs))
+    ∙ line-apart (block (element name attributes content) bs)
+same-item true (block (tags s) bs) = line-apart (block (tags s) bs)
 
 mutual
-  open-flat : (p rest : Blocks) → are_settled_blocks (cut_blocks p) ≡ true
-      → are_normal_blocks false (cut_blocks p) ≡ true → IsApart (flat_open rest).first
+  open-flat : (in_item : Bool) (p rest : Blocks) → are_settled_alone (cut_blocks p) ≡ true
+      → are_normal_blocks in_item (cut_blocks p) ≡ true → IsOutside (cut_blocks p) (flat_open rest).behind
+      → IsApart (flat_open rest).first
       → flat_open (flat_all p rest) ≡ onto (trees_onto p) (flat_open rest)
-  open-flat no_blocks rest settled normal e = refl
-  open-flat (block b bs) rest settled normal e =
-      let good = and_parts (is_settled_block (cut_block b)) (are_settled_blocks (cut_blocks bs)) settled in
-      let form = and_parts (is_normal_block false (cut_block b)) (are_normal_blocks false (cut_blocks bs)) normal in
-      let later = open-flat bs rest good.1 form.1 e in
+  open-flat in_item no_blocks rest settled normal outside e = refl
+  open-flat in_item (block b bs) rest settled normal outside e =
+      let good = and_parts (is_settled_alone (cut_block b)) (are_settled_alone (cut_blocks bs)) settled in
+      let form = and_parts (is_normal_block in_item (cut_block b)) (are_normal_blocks false (cut_blocks bs)) normal in
+      let further : IsOutside (cut_blocks bs) (flat_open rest).behind =
+      rest-outside (cut_block b) (cut_blocks bs) (flat_open rest).behind outside in
+      let later = open-flat false bs rest good.1 form.1 further e in
       let apart : IsApart (flat_open (flat_all bs rest)).first =
       subst (λ (o : Open). IsApart o.first) (sym later) (onto-apart bs (flat_open rest).first e) in
-      one-flat b (flat_all bs rest) good.0 form.0 apart ∙ ap (onto (spelled_before b)) later
+      one-flat in_item b (flat_all bs rest) good.0 form.0
+      (λ t. first-outside (cut_block b) (cut_blocks bs) (flat_open (flat_all bs rest)).behind t
+      (subst (λ (o : Open). IsOutside (block (cut_block b) (cut_blocks bs)) o.behind) (sym later) outside))
+      apart ∙ ap (onto (spelled_before b)) later
 
-  one-flat : (b : Block) (r : Blocks) → is_settled_block (cut_block b) ≡ true
-      → is_normal_block false (cut_block b) ≡ true → IsApart (flat_open r).first
+  one-flat : (in_item : Bool) (b : Block) (r : Blocks) → is_settled_alone (cut_block b) ≡ true
+      → is_normal_block in_item (cut_block b) ≡ true
+      → (is_element_table (cut_block b) ≡ true → is_outside (flat_open r).behind ≡ true)
+      → IsApart (flat_open r).first
       → flat_open (flat_before b r) ≡ onto (spelled_before b) (flat_open r)
-  one-flat (paragraph xs) r settled normal e = ap (behind_own (paragraph xs) r) e
-  one-flat (heading level xs) r settled normal e = ap (behind_own (heading level xs) r) e
-  one-flat (code_block language s) r settled normal e = ap (behind_own (code_block language s) r) e
-  one-flat (quote content) r settled normal e =
+  one-flat in_item (paragraph xs) r settled normal outside e = ap (behind_own (paragraph xs) r) e
+  one-flat in_item (heading level xs) r settled normal outside e = ap (behind_own (heading level xs) r) e
+  one-flat in_item (code_block language s) r settled normal outside e = ap (behind_own (code_block language s) r) e
+  one-flat in_item (quote content) r settled normal outside e =
       let form = and_parts (is_filled (cut_blocks content)) (are_normal_blocks false (cut_blocks content)) normal in
       let inner : (flat_open (flattened content)).first ≡ spelled_in content =
-      ap (λ o. o.first) (open-flat content no_blocks settled form.1 refl) ∙ onto-none content in
+      ap (λ o. o.first) (open-flat false content no_blocks settled form.1 (λ h. refl) refl) ∙ onto-none content in
       ap (λ us. onto (with_tail (lines_before (codes "blockquote") [] us trees.none)) (flat_open r)) inner
       ∙ (ap (λ us. onto (with_tail (trees.more (trees.element trees.spaced (codes "blockquote") [] us) trees.none))
       (flat_open r)) (line-apart content)
       ∙ ap (behind_own (quote content) r) e)
-  one-flat thematic_break r settled normal e = ap (behind_own thematic_break r) e
-  one-flat (list start is_tight items) r settled normal e =
-      let plain = (and_parts (is_right_list is_tight (cut_items items) && are_settled_items (cut_items items))
-      (items_have_no_elements (cut_items items)) settled).1 in
-      ap (λ x. flat_open (block (list start is_tight x) r)) (same-items items (sym (cut-items items) ∙ plain))
-      ∙ ap (behind_own (list start is_tight items) r) e
-  one-flat (table alignments header rows) r settled normal e = ap (behind_own (table alignments header rows) r) e
-  one-flat (element name attributes content) r settled normal e =
-      let own = details name attributes (cut_blocks content) settled normal in
-      let last = line_before (end_of_element name) r in
-      let closed : flat_open last ≡ with_line (lines.closing name) (flat_open r) =
-      line-open (end_of_element name) r (tag_clean (end_of_element name) (end_line name))
-      ∙ ap (λ l. with_line l (flat_open r)) (closing_read name) in
-      let inside : flat_open (flat_all content last) ≡ onto (trees_onto content) (flat_open last) =
-      open-flat content last own.settled own.normal
-      (subst (λ (o : Open). IsApart o.first) (sym (closed ∙ plain-closing name (flat_open r) own.apart)) refl) in
-      ap (λ t. flat_open (element_before name attributes t (flat_all content last) r))
-      (sym (cut-text content) ∙ own.long)
-      ∙ (line-open (element_tag name attributes) (flat_all content last)
-      (tag_clean (element_tag name attributes) (tag_line name attributes own.values))
-      ∙ (ap (λ l. with_line l (flat_open (flat_all content last))) (opening_read name attributes)
-      ∙ (ap (with_line (lines.opening name attributes)) (inside ∙ ap (onto (trees_onto content)) closed)
-      ∙ element-ends name attributes content r own.apart e)))
-  one-flat (tags s) r settled normal e = false-true settled
+  one-flat in_item thematic_break r settled normal outside e = ap (behind_own thematic_break r) e
+  one-flat in_item (list start is_tight items) r settled normal outside e =
+      let d : Items = cut_items items in
+      let good = and_parts (is_right_list is_tight d) (are_settled_items d) settled in
+      let form = and_parts (is_normal_list start is_tight (flat_items d)) (are_normal_items d) normal in
+      let name : List ℕ = list_name start in
+      ap (λ us. onto (with_tail (lines_before name (pairs_of_start start) us trees.none)) (flat_open r))
+      (items-flat is_tight items good.1 form.1)
+      ∙ (ap (λ us. onto (with_tail
+      (trees.more (trees.element trees.spaced name (pairs_of_start start) us) trees.none))
+      (flat_open r)) (items-apart is_tight items)
+      ∙ ap (behind_own (list start is_tight items) r) e)
+  one-flat in_item (table alignments header rows) r settled normal outside e =
+      ap (behind_own (table alignments header rows) r) e
+  one-flat in_item (element an.Table attributes content) r settled normal outside e =
+      let own = element-form an.Table attributes (cut_blocks content) settled normal in
+      table-flat attributes content r own
+      (sym (cut-text content) ∙ rows-long (cut_blocks content) own.bounded
+      (table-filled attributes (cut_blocks content) normal)) e (outside refl)
+      (open-flat false content (line_before (end_of_element an.Table) r) own.settled own.normal
+      (rows-outside (cut_blocks content) (flat_open (line_before (end_of_element an.Table) r)).behind own.bounded))
+  one-flat in_item (element name attributes content) r settled normal outside e =
+      let own = element-form name attributes (cut_blocks content) settled normal in
+      element-flat name attributes content r own (from-not (bounds_section (element_name name)) own.bounded) e
+      (λ a o. open-flat false content (line_before (end_of_element name) r) own.settled own.normal (λ h. o) a)
+  one-flat in_item (tags s) r settled normal outside e = false-true settled
 
--- ---- what is flat of a settled document is good
-
-line-good : (line : List ℕ) (rest : Blocks) → are_good rest ≡ true → are_good (line_before line rest) ≡ true
-line-good line (block (tags s) bs) h = h
-line-good line rest h = h
-
-mutual
-  flat-good : (d rest : Blocks) → are_settled_blocks d ≡ true → are_normal_blocks false d ≡ true
-      → are_good rest ≡ true → are_good (flat_all d rest) ≡ true
-  flat-good no_blocks rest settled normal h = h
-  flat-good (block b bs) rest settled normal h =
-      let good = and_parts (is_settled_block b) (are_settled_blocks bs) settled in
-      let form = and_parts (is_normal_block false b) (are_normal_blocks false bs) normal in
-      one-good b (flat_all bs rest) good.0 form.0 (flat-good bs rest good.1 form.1 h)
-
-  one-good : (b : Block) (r : Blocks) → is_settled_block b ≡ true → is_normal_block false b ≡ true
-      → are_good r ≡ true → are_good (flat_before b r) ≡ true
-  one-good (quote content) r settled normal h =
-      let form = and_parts (is_filled content) (are_normal_blocks false content) normal in
-      and_from (are_good (flattened content)) (are_good r) (flat-good content no_blocks settled form.1 refl) h
-  one-good (list start is_tight items) r settled normal h =
-      let plain = (and_parts (is_right_list is_tight items && are_settled_items items) (items_have_no_elements items)
-      settled).1 in
-      ap (λ x. are_good (block (list start is_tight x) r)) (same-items items plain)
-      ∙ and_from (is_good (list start is_tight items)) (are_good r)
-      (and_from (is_settled_block (list start is_tight items)) (is_normal_block false (list start is_tight items))
-      settled normal) h
-  one-good (element name attributes content) r settled normal h =
-      let own = details name attributes content settled normal in
-      let last = line_before (end_of_element name) r in
-      ap (λ t. are_good (element_before name attributes t (flat_all content last) r)) own.long
-      ∙ line-good (element_tag name attributes) (flat_all content last)
-      (flat-good content last own.settled own.normal (line-good (end_of_element name) r h))
-  one-good (tags s) r settled normal h = false-true settled
-  one-good b r settled normal h =
-      and_from (is_good b) (are_good r) (and_from (is_settled_block b) (is_normal_block false b) settled normal) h
+  -- in an item the lines stand as they do elsewhere
+  items-flat : (is_tight : Bool) (items : Items) → are_settled_items (cut_items items) ≡ true
+      → are_normal_items (cut_items items) ≡ true
+      → item_trees_of is_tight (flat_items items) ≡ spelled_items is_tight items
+  items-flat is_tight no_items settled normal = refl
+  items-flat is_tight (item bs rest) settled normal =
+      let good = and_parts (are_settled_blocks (cut_blocks bs)) (are_settled_items (cut_items rest)) settled in
+      let form = and_parts (are_normal_blocks true (cut_blocks bs)) (are_normal_items (cut_items rest)) normal in
+      let inner : (flat_open (flattened bs)).first ≡ spelled_in bs =
+      ap (λ o. o.first) (open-flat true bs no_blocks (settled-alone (cut_blocks bs) good.0) form.0 (λ h. refl) refl)
+      ∙ onto-none bs in
+      let one : SpelledForest → SpelledForest → SpelledForest =
+      λ us. trees.more (trees.element trees.spaced (codes "li") [] us) in
+      let later : SpelledForest = line_end (item_trees_of is_tight (flat_items rest)) in
+      ap (λ us. one (flat_item is_tight (flattened bs) us) later) inner
+      ∙ (ap (λ us. one us later) (same-item is_tight bs)
+      ∙ ap (one (item_trees is_tight bs (spelled_in bs)))
+      (ap line_end (items-flat is_tight rest good.1 form.1) ∙ items-apart is_tight rest))
 
 -- ---- the document of a page, with its elements
 
@@ -394,6 +448,11 @@ record IsCutLine (line : List ℕ) (r q : Blocks) : Type 0 where
   behind : Blocks
   is : line_before line behind ≡ q
   others : cut_blocks behind ≡ r
+
+record AreCutItems (items q : Items) : Type 0 where
+  page : Items
+  is : flat_items page ≡ q
+  same : cut_items page ≡ items
 
 record IsFirst (b : Block) (r q : Blocks) : Type 0 where
   first : Block
@@ -432,6 +491,33 @@ quote-cut (list start is_tight items) d e = absurd (cc)
 quote-cut (table alignments header rows) d e = absurd (cc)
 quote-cut (element name attributes content) d e = absurd (cc)
 quote-cut (tags t) d e = absurd (cc)
+
+list-cut : (b : Block) (start : Option ℕ) (is_tight : Bool) (d : Items) → cut_block b ≡ list start is_tight d
+    → (items : Items) × (b ≡ list start is_tight items) × (cut_items items ≡ d)
+list-cut (paragraph xs) start is_tight d e = absurd (cc)
+list-cut (heading level xs) start is_tight d e = absurd (cc)
+list-cut (code_block language t) start is_tight d e = absurd (cc)
+list-cut (quote content) start is_tight d e = absurd (cc)
+list-cut thematic_break start is_tight d e = absurd (cc)
+list-cut (list s t items) start is_tight d e = (items, cc, cc)
+list-cut (table alignments header rows) start is_tight d e = absurd (cc)
+list-cut (element name attributes content) start is_tight d e = absurd (cc)
+list-cut (tags t) start is_tight d e = absurd (cc)
+
+record AreFirstItems (bs : Blocks) (rest q : Items) : Type 0 where
+  first : Blocks
+  behind : Items
+  is : q ≡ item first behind
+  same : cut_blocks first ≡ bs
+  others : cut_items behind ≡ rest
+
+first-item : (q : Items) (bs : Blocks) (rest : Items) → cut_items q ≡ item bs rest → AreFirstItems bs rest q
+first-item no_items bs rest e = absurd (cc)
+first-item (item cs q) bs rest e = record { first = cs; behind = q; is = refl; same = (cc); others = (cc) }
+
+no-item-cut : (q : Items) → cut_items q ≡ no_items → q ≡ no_items
+no-item-cut no_items e = refl
+no-item-cut (item bs q) e = absurd (cc)
 
 -- what begins with no tags
 abbrev begins_plain : Blocks → Bool
@@ -475,40 +561,102 @@ uncut-line line (block (tags s) r) q e =
     }
 uncut-line line r q e = uncut-first line r q refl e
 
--- a block without elements stays
-kept-before : (b : Block) (r : Blocks) → block_has_no_elements b ≡ true → flat_before b r ≡ block b r
-kept-before (paragraph xs) r h = refl
-kept-before (heading level xs) r h = refl
-kept-before (code_block language s) r h = refl
-kept-before (quote content) r h = ap (λ bs. block (quote bs) r) (same-flat content h)
-kept-before thematic_break r h = refl
-kept-before (list start is_tight items) r h = ap (λ x. block (list start is_tight x) r) (same-items items h)
-kept-before (table alignments header rows) r h = refl
-kept-before (element name attributes content) r h = false-true h
-kept-before (tags s) r h = false-true h
+-- no blocks stand in it, and it stays
+abbrev is_leaf : Block → Bool
+is_leaf (quote content) = false
+is_leaf (list start is_tight items) = false
+is_leaf (element name attributes content) = false
+is_leaf b = true
 
-uncut-plain : (b : Block) (r q : Blocks) → block_has_no_elements b ≡ true → cut_blocks q ≡ block b r
-    → IsCutBlock b r q
-uncut-plain b r q h e =
+cut-leaf : (b : Block) → is_leaf (cut_block b) ≡ is_leaf b
+cut-leaf (paragraph xs) = refl
+cut-leaf (heading level xs) = refl
+cut-leaf (code_block language s) = refl
+cut-leaf (quote content) = refl
+cut-leaf thematic_break = refl
+cut-leaf (list start is_tight items) = refl
+cut-leaf (table alignments header rows) = refl
+cut-leaf (element name attributes content) = refl
+cut-leaf (tags s) = refl
+
+kept-leaf : (b : Block) (r : Blocks) → is_leaf b ≡ true → flat_before b r ≡ block b r
+kept-leaf (quote content) r h = false-true h
+kept-leaf (list start is_tight items) r h = false-true h
+kept-leaf (element name attributes content) r h = false-true h
+kept-leaf b r h = refl
+
+uncut-leaf : (b : Block) (r q : Blocks) → is_leaf b ≡ true → cut_blocks q ≡ block b r → IsCutBlock b r q
+uncut-leaf b r q h e =
     let f = first-cut q b r e in
     record {
       page = f.first;
       behind = f.behind;
-      is = kept-before f.first f.behind (sym (cut-elements f.first) ∙ (ap block_has_no_elements f.same ∙ h))
-          ∙ sym f.is;
+      is = kept-leaf f.first f.behind (sym (cut-leaf f.first) ∙ (ap is_leaf f.same ∙ h)) ∙ sym f.is;
       same = f.same;
       others = f.others;
     }
 
+uncut-element : (name : BlockElement) (attributes : List BlockAttribute) (content r q : Blocks)
+    → are_normal_blocks false content ≡ true
+    → ((rest p : Blocks) → cut_blocks p ≡ flat_all content rest → IsCut content rest p)
+    → cut_blocks q ≡ flat_before (element name attributes content) r
+    → IsCutBlock (element name attributes content) r q
+uncut-element name attributes content r q normal inner e =
+    in_line_cases Uncut content normal (λ k t is. in_line no_blocks [] t refl is)
+    (λ s n k t is. in_line (block (paragraph (inline (text s) no_inlines)) no_blocks) s t refl is)
+    (λ c n all t is. in_lines c all t is) inner refl e
+  where
+    Uncut : Blocks → Option (List ℕ) → Type 0
+    Uncut c t =
+        ((rest p : Blocks) → cut_blocks p ≡ flat_all c rest → IsCut c rest p) → text_in_line c ≡ t
+        → cut_blocks q ≡ element_before name attributes t (flat_all c (line_before (end_of_element name) r)) r
+        → IsCutBlock (element name attributes c) r q
+
+    in_line : (c : Blocks) (s : List ℕ) → text_in_line c ≡ Some s → cut_blocks c ≡ c
+        → cut_blocks q ≡ line_before (element_line name attributes s) r
+        → IsCutBlock (element name attributes c) r q
+    in_line c s t same is =
+        let line = uncut-line (element_line name attributes s) r q is in
+        let last : Blocks = line_before (end_of_element name) line.behind in
+        record {
+          page = element name attributes c;
+          behind = line.behind;
+          is = ap (λ o. element_before name attributes o (flat_all c last) line.behind) t ∙ line.is;
+          same = ap (element name attributes) same;
+          others = line.others;
+        }
+
+    in_lines : (c : Blocks) → ((rest p : Blocks) → cut_blocks p ≡ flat_all c rest → IsCut c rest p)
+        → text_in_line c ≡ None
+        → cut_blocks q
+        ≡ line_before (element_tag name attributes) (flat_all c (line_before (end_of_element name) r))
+        → IsCutBlock (element name attributes c) r q
+    in_lines c all long is =
+        let last = line_before (end_of_element name) r in
+        let tag = uncut-line (element_tag name attributes) (flat_all c last) q is in
+        let within = all last tag.behind tag.others in
+        let end = uncut-line (end_of_element name) r within.behind within.others in
+        record {
+          page = element name attributes within.page;
+          behind = end.behind;
+          is = ap (λ t. element_before name attributes t (flat_all within.page (line_before (end_of_element name)
+              end.behind)) end.behind) (sym (cut-text within.page) ∙ (ap text_in_line within.same ∙ long))
+              ∙ (ap (λ k. line_before (element_tag name attributes) (flat_all within.page k)) end.is
+              ∙ (ap (line_before (element_tag name attributes)) within.is ∙ tag.is));
+          same = ap (element name attributes) within.same;
+          others = end.others;
+        }
+
 mutual
-  uncut : (d rest q : Blocks) → are_settled_blocks d ≡ true → are_normal_blocks false d ≡ true
+  uncut : (in_item : Bool) (d rest q : Blocks) → are_settled_alone d ≡ true → are_normal_blocks in_item d ≡ true
       → cut_blocks q ≡ flat_all d rest → IsCut d rest q
-  uncut no_blocks rest q settled normal e = record { page = no_blocks; behind = q; is = refl; same = refl; others = e }
-  uncut (block b bs) rest q settled normal e =
-      let good = and_parts (is_settled_block b) (are_settled_blocks bs) settled in
-      let form = and_parts (is_normal_block false b) (are_normal_blocks false bs) normal in
-      let one = uncut-one b (flat_all bs rest) q good.0 form.0 e in
-      let more = uncut bs rest one.behind good.1 form.1 one.others in
+  uncut in_item no_blocks rest q settled normal e =
+      record { page = no_blocks; behind = q; is = refl; same = refl; others = e }
+  uncut in_item (block b bs) rest q settled normal e =
+      let good = and_parts (is_settled_alone b) (are_settled_alone bs) settled in
+      let form = and_parts (is_normal_block in_item b) (are_normal_blocks false bs) normal in
+      let one = uncut-one in_item b (flat_all bs rest) q good.0 form.0 e in
+      let more = uncut false bs rest one.behind good.1 form.1 one.others in
       record {
         page = block one.page more.page;
         behind = more.behind;
@@ -517,13 +665,14 @@ mutual
         others = more.others;
       }
 
-  uncut-one : (b : Block) (r q : Blocks) → is_settled_block b ≡ true → is_normal_block false b ≡ true
+  uncut-one : (in_item : Bool) (b : Block) (r q : Blocks) → is_settled_alone b ≡ true
+      → is_normal_block in_item b ≡ true
       → cut_blocks q ≡ flat_before b r → IsCutBlock b r q
-  uncut-one (quote content) r q settled normal e =
+  uncut-one in_item (quote content) r q settled normal e =
       let form = and_parts (is_filled content) (are_normal_blocks false content) normal in
       let f = first-cut q (quote (flattened content)) r e in
       let own = quote-cut f.first (flattened content) f.same in
-      let inner = uncut content no_blocks own.0 settled form.1 own.2 in
+      let inner = uncut false content no_blocks own.0 settled form.1 own.2 in
       record {
         page = quote inner.page;
         behind = f.behind;
@@ -533,34 +682,48 @@ mutual
         same = ap quote inner.same;
         others = f.others;
       }
-  uncut-one (list start is_tight items) r q settled normal e =
-      let plain = (and_parts (is_right_list is_tight items && are_settled_items items) (items_have_no_elements items)
-      settled).1 in
-      uncut-plain (list start is_tight items) r q plain
-      (e ∙ ap (λ x. block (list start is_tight x) r) (same-items items plain))
-  uncut-one (element name attributes content) r q settled normal e =
-      let own = details name attributes content settled normal in
-      let last = line_before (end_of_element name) r in
-      let tag = uncut-line (element_tag name attributes) (flat_all content last) q
-      (e ∙ ap (λ t. element_before name attributes t (flat_all content last) r) own.long) in
-      let inner = uncut content last tag.behind own.settled own.normal tag.others in
-      let end = uncut-line (end_of_element name) r inner.behind inner.others in
+  uncut-one in_item (list start is_tight items) r q settled normal e =
+      let good = and_parts (is_right_list is_tight items) (are_settled_items items) settled in
+      let form = and_parts (is_normal_list start is_tight (flat_items items)) (are_normal_items items) normal in
+      let f = first-cut q (list start is_tight (flat_items items)) r e in
+      let own = list-cut f.first start is_tight (flat_items items) f.same in
+      let inner = uncut-items items own.0 good.1 form.1 own.2 in
       record {
-        page = element name attributes inner.page;
-        behind = end.behind;
-        is = ap (λ t. element_before name attributes t (flat_all inner.page (line_before (end_of_element name)
-            end.behind)) end.behind) (sym (cut-text inner.page) ∙ (ap text_in_line inner.same ∙ own.long))
-            ∙ (ap (λ k. line_before (element_tag name attributes) (flat_all inner.page k)) end.is
-            ∙ (ap (line_before (element_tag name attributes)) inner.is ∙ tag.is));
-        same = ap (element name attributes) inner.same;
-        others = end.others;
+        page = list start is_tight inner.page;
+        behind = f.behind;
+        is = ap (λ x. block (list start is_tight x) f.behind) inner.is
+            ∙ (ap (λ b. block b f.behind) (sym own.1) ∙ sym f.is);
+        same = ap (list start is_tight) inner.same;
+        others = f.others;
       }
-  uncut-one (paragraph xs) r q settled normal e = uncut-plain (paragraph xs) r q refl e
-  uncut-one (heading level xs) r q settled normal e = uncut-plain (heading level xs) r q refl e
-  uncut-one (code_block language s) r q settled normal e = uncut-plain (code_block language s) r q refl e
-  uncut-one thematic_break r q settled normal e = uncut-plain thematic_break r q refl e
-  uncut-one (table alignments header rows) r q settled normal e = uncut-plain (table alignments header rows) r q refl e
-  uncut-one (tags s) r q settled normal e = false-true settled
+  uncut-one in_item (element name attributes content) r q settled normal e =
+      let own = element-form name attributes content settled normal in
+      uncut-element name attributes content r q own.normal
+      (λ rest p same. uncut false content rest p own.settled own.normal same) e
+  uncut-one in_item (paragraph xs) r q settled normal e = uncut-leaf (paragraph xs) r q refl e
+  uncut-one in_item (heading level xs) r q settled normal e = uncut-leaf (heading level xs) r q refl e
+  uncut-one in_item (code_block language s) r q settled normal e = uncut-leaf (code_block language s) r q refl e
+  uncut-one in_item thematic_break r q settled normal e = uncut-leaf thematic_break r q refl e
+  uncut-one in_item (table alignments header rows) r q settled normal e =
+      uncut-leaf (table alignments header rows) r q refl e
+  uncut-one in_item (tags s) r q settled normal e = false-true settled
+
+  uncut-items : (items q : Items) → are_settled_items items ≡ true → are_normal_items items ≡ true
+      → cut_items q ≡ flat_items items → AreCutItems items q
+  uncut-items no_items q settled normal e =
+      record { page = no_items; is = sym (no-item-cut q e); same = refl }
+  uncut-items (item bs rest) q settled normal e =
+      let good = and_parts (are_settled_blocks bs) (are_settled_items rest) settled in
+      let form = and_parts (are_normal_blocks true bs) (are_normal_items rest) normal in
+      let f = first-item q (flattened bs) (flat_items rest) e in
+      let inner = uncut true bs no_blocks f.first (settled-alone bs good.0) form.0 f.same in
+      let more = uncut-items rest f.behind good.1 form.1 f.others in
+      record {
+        page = item inner.page more.page;
+        is = ap (λ k. item (flat_all inner.page k) (flat_items more.page)) (sym (none-cut inner.behind inner.others))
+            ∙ (ap (λ c. item c (flat_items more.page)) inner.is ∙ (ap (item f.first) more.is ∙ sym f.is));
+        same = ap (λ c. item c (cut_items more.page)) inner.same ∙ ap (item bs) more.same;
+      }
 
 -- the document that a page shows where what is read is seen as the flat one of a settled document
 pub record IsPage (bs : markup.Blocks) (d : Blocks) : Type 0 where
@@ -570,19 +733,19 @@ pub record IsPage (bs : markup.Blocks) (d : Blocks) : Type 0 where
   pub trees : blocks_trees false false bs ≡ spelled_in page
 
 pub elements-from : (bs : markup.Blocks) (d : Blocks) → blocks_have_no_raw bs ≡ true
-    → cut_blocks (page_blocks bs) ≡ flattened d → are_settled_blocks d ≡ true
+    → cut_blocks (page_blocks bs) ≡ flattened d → are_settled_alone d ≡ true
     → are_normal_blocks false d ≡ true
     → IsPage bs d
 elements-from bs d h e settled normal =
-    let u = uncut d no_blocks (page_blocks bs) settled normal e in
+    let u = uncut false d no_blocks (page_blocks bs) settled normal e in
     let is : flattened u.page ≡ page_blocks bs = ap (flat_all u.page) (sym (none-cut u.behind u.others)) ∙ u.is in
     record {
       page = u.page;
       same = u.same;
       flat = is;
-      trees = ap (λ o. o.first) (open-from bs h (ap are_good e ∙ flat-good d no_blocks settled normal refl))
+      trees = ap (λ o. o.first) (open-from bs h (ap are_good e ∙ flat-good false d no_blocks normal refl))
           ∙ (ap (λ q. (flat_open q).first) (sym is)
-          ∙ (ap (λ o. o.first) (open-flat u.page no_blocks (ap are_settled_blocks u.same ∙ settled)
-          (ap (are_normal_blocks false) u.same ∙ normal) refl)
+          ∙ (ap (λ o. o.first) (open-flat false u.page no_blocks (ap are_settled_alone u.same ∙ settled)
+          (ap (are_normal_blocks false) u.same ∙ normal) (λ h. refl) refl)
           ∙ onto-none u.page));
     }

@@ -1,5 +1,6 @@
 -- Normal documents that are settled with their addresses encoded are normal with these.
-use Rattle.std.proofs.Common.{◌≡◌, ℕ, Bool, true, false, not, ◌&&◌, ◌||◌, cond, List, [], ◌∷◌, refl, sym, ap, ◌∙◌}
+use Rattle.std.proofs.Common.{◌≡◌, ℕ, Bool, true, false, not, ◌&&◌, ◌||◌, cond, List, [], ◌∷◌}
+use Rattle.std.proofs.Common.{refl, sym, ap, ◌∙◌}
 use Rattle.std.proofs.Common.{Option, arith, length, map, ◌==◌}
 use Rattle.std.specs.Prelude.{nat_le}
 use Rattle.std.specs.List.{list_all}
@@ -24,23 +25,23 @@ use Rattle.htmd_document.specs.NormalDocuments.{are_normal_items, depth_among, i
 use Rattle.htmd_document.specs.NormalDocuments.{has_cell, ends_filled, are_normal_cells, is_normal_row, is_normal_table}
 use Rattle.htmd_document.specs.TightItems.{is_filled}
 use Rattle.htmd_commonmark_reading.specs.Rendering.{stays_in_address}
-use Rattle.htmd_law_rendering.specs.PlainReadings.{items_have_no_elements}
 use Rattle.htmd_law_rendering.specs.RenderedTrees.{encoded_address}
-use Rattle.htmd_law_rendering.proofs.DocumentLemmas.{same-items}
+use Rattle.htmd_law_returning.proofs.FlatLemmas.{items-changed}
 use Rattle.htmd_law_returning.specs.EncodedDocuments.{changed_inline, changed_inlines, changed_block, changed}
 use Rattle.htmd_law_returning.specs.EncodedDocuments.{changed_items, changed_cells, encoded}
 use Rattle.htmd_law_returning.specs.SettledDocuments.{is_settled_address, is_settled_title, is_settled_link}
 use Rattle.htmd_law_returning.specs.SettledDocuments.{is_settled_line, are_away, is_one_line, is_settled_inline}
 use Rattle.htmd_law_returning.specs.SettledDocuments.{are_settled_inlines}
 use Rattle.htmd_law_returning.specs.SettledDocuments.{is_white_at_break, is_right_list}
-use Rattle.htmd_law_returning.specs.SettledDocuments.{is_settled_table, shows_last_column, is_settled_element}
-use Rattle.htmd_law_returning.specs.SettledDocuments.{is_settled_block, are_settled_blocks, are_settled_items}
+use Rattle.htmd_law_returning.specs.SettledDocuments.{is_settled_table, shows_last_column}
+use Rattle.htmd_law_returning.specs.SettledDocuments.{are_settled_blocks, are_settled_items}
 use Rattle.htmd_law_returning.specs.SettledDocuments.{are_settled, numbers_fit, is_light}
 use Rattle.htmd_law_returning.specs.WholeLines.{is_whole}
+use Rattle.htmd_law_returning.proofs.ElementForms.{is_settled_alone, are_settled_alone, settled-alone, is_bounded}
 use Rattle.htmd_law_returning.proofs.StartLemmas.{false-true}
 use Rattle.htmd_law_returning.proofs.AddressLemmas.{ascii-bytes, encoded-stays}
 use Rattle.htmd_law_returning.proofs.ChangedLemmas.{none-same, whole-same, meets-same, anchors-same, stand-same}
-use Rattle.htmd_law_returning.proofs.ChangedLemmas.{count-same, filled-items, distance-same, item-elements, depth-same}
+use Rattle.htmd_law_returning.proofs.ChangedLemmas.{count-same, filled-items, distance-same, depth-same}
 use Rattle.htmd_law_returning.proofs.ChangedLemmas.{filled-same, ends-same-as, cells-length, cell-same, filled-ends}
 use Rattle.htmd_law_returning.specs.SettledDocuments.{is_settled_line, is_settled_paragraph}
 use Rattle.htmd_document.specs.NormalInlines.{first_passes, last_passes, begins_with_space, ends_with_space, is_break}
@@ -291,18 +292,17 @@ first-normal false xs h e = plain-normal xs h e
 
 -- ---- blocks
 
-list-same : (start : Option ℕ) (is_tight : Bool) (items : Items) → items_have_no_elements items ≡ true
+list-same : (start : Option ℕ) (is_tight : Bool) (items : Items)
     → is_normal_list start is_tight (flat_items (changed_items encoded_address items))
     ≡ is_normal_list start is_tight (flat_items items)
-list-same start is_tight items plain =
-    let others : Items = changed_items encoded_address items in
-    ap (is_normal_list start is_tight) (same-items others (item-elements encoded_address items ∙ plain))
-    ∙ (rw (
-      filled-items encoded_address items,
-      count-same encoded_address items,
-      distance-same encoded_address is_tight items,
+list-same start is_tight items =
+    let flat : Items = flat_items items in
+    ap (is_normal_list start is_tight) (sym (items-changed encoded_address items))
+    ∙ rw (
+      filled-items encoded_address flat,
+      count-same encoded_address flat,
+      distance-same encoded_address is_tight flat,
     ) refl
-    ∙ ap (is_normal_list start is_tight) (sym (same-items items plain)))
 
 -- ---- cells
 
@@ -394,7 +394,7 @@ table-normal alignments header rows h e =
     ∙ rows-normal (length header) rows p.1 all.1)
 
 mutual
-  block-kept : (b : Block) → is_settled_block (changed_block encoded_address b) ≡ true
+  block-kept : (b : Block) → is_settled_alone (changed_block encoded_address b) ≡ true
       → changed_block kept_address b ≡ changed_block encoded_address b
   block-kept (paragraph xs) h = ap paragraph (paragraph-kept xs h)
   block-kept (heading n xs) h =
@@ -406,8 +406,7 @@ mutual
   block-kept (list start is_tight items) h =
       let others : Items = changed_items encoded_address items in
       ap (list start is_tight)
-      (items-kept items (and_parts (is_right_list is_tight others) (are_settled_items others)
-      (and_parts (is_right_list is_tight others && are_settled_items others) (items_have_no_elements others) h).0).1)
+      (items-kept items (and_parts (is_right_list is_tight others) (are_settled_items others) h).1)
   block-kept (table alignments header rows) h =
       let cells : List Inlines = changed_cells encoded_address header in
       let others : List (List Inlines) = map (changed_cells encoded_address) rows in
@@ -418,15 +417,15 @@ mutual
       ∙ ap (table alignments cells) (rows-kept rows all.1)
   block-kept (element name attributes bs) h =
       ap (element name attributes) (blocks-kept bs
-      (and_parts (is_settled_element name attributes (encoded bs)) (are_settled_blocks (encoded bs)) h).1)
+      (and_parts (is_bounded name (encoded bs)) (are_settled_alone (encoded bs)) h).1)
   block-kept (tags s) h = false-true h
 
-  pub blocks-kept : (bs : Blocks) → are_settled_blocks (encoded bs) ≡ true
+  pub blocks-kept : (bs : Blocks) → are_settled_alone (encoded bs) ≡ true
       → changed kept_address bs ≡ encoded bs
   blocks-kept no_blocks h = refl
   blocks-kept (block b bs) h =
       let c = changed_block encoded_address b in
-      let p = and_parts (is_settled_block c) (are_settled_blocks (encoded bs)) h in
+      let p = and_parts (is_settled_alone c) (are_settled_alone (encoded bs)) h in
       ap (λ x. block x (changed kept_address bs)) (block-kept b p.0) ∙ ap (block c) (blocks-kept bs p.1)
 
   items-kept : (items : Items) → are_settled_items (changed_items encoded_address items) ≡ true
@@ -435,12 +434,12 @@ mutual
   items-kept (item bs rest) h =
       let p = and_parts (are_settled_blocks (encoded bs))
       (are_settled_items (changed_items encoded_address rest)) h in
-      ap (λ x. item x (changed_items kept_address rest)) (blocks-kept bs p.0)
+      ap (λ x. item x (changed_items kept_address rest)) (blocks-kept bs (settled-alone (encoded bs) p.0))
       ∙ ap (item (encoded bs)) (items-kept rest p.1)
 
 mutual
   block-normal : (in_item : Bool) (b : Block) → is_normal_block in_item b ≡ true
-      → is_settled_block (changed_block encoded_address b) ≡ true
+      → is_settled_alone (changed_block encoded_address b) ≡ true
       → is_normal_block in_item (changed_block encoded_address b) ≡ true
   block-normal in_item (paragraph xs) h e =
       let own = cond in_item (is_normal_item xs) (is_normal_line xs) in
@@ -469,17 +468,13 @@ mutual
   block-normal in_item thematic_break h e = refl
   block-normal in_item (list start is_tight items) h e =
       let others : Items = changed_items encoded_address items in
-      let good = and_parts (is_right_list is_tight others && are_settled_items others) (items_have_no_elements others)
-      e in
-      let settled = (and_parts (is_right_list is_tight others) (are_settled_items others) good.0).1 in
-      let plain = sym (item-elements encoded_address items) ∙ good.1 in
+      let settled = (and_parts (is_right_list is_tight others) (are_settled_items others) e).1 in
       let p = and_parts (is_normal_list start is_tight (flat_items items)) (are_normal_items items) h in
       and_from (is_normal_list start is_tight (flat_items others)) (are_normal_items others)
-      (list-same start is_tight items plain ∙ p.0) (items-normal items p.1 settled)
+      (list-same start is_tight items ∙ p.0) (items-normal items p.1 settled)
   block-normal in_item (table alignments header rows) h e = table-normal alignments header rows h e
   block-normal in_item (element name attributes bs) h e =
-      let settled = (and_parts (is_settled_element name attributes (encoded bs)) (are_settled_blocks (encoded bs))
-      e).1 in
+      let settled = (and_parts (is_bounded name (encoded bs)) (are_settled_alone (encoded bs)) e).1 in
       let p = and_parts (is_normal_element name attributes bs) (are_normal_blocks false bs) h in
       and_from (is_normal_element name attributes (encoded bs)) (are_normal_blocks false (encoded bs))
       (ap (λ b. list_all (λ a. is_attribute a.value) attributes && (b || may_be_empty name))
@@ -487,13 +482,13 @@ mutual
   block-normal in_item (tags s) h e = false-true e
 
   blocks-normal : (in_item : Bool) (bs : Blocks) → are_normal_blocks in_item bs ≡ true
-      → are_settled_blocks (encoded bs) ≡ true
+      → are_settled_alone (encoded bs) ≡ true
       → are_normal_blocks in_item (encoded bs) ≡ true
   blocks-normal in_item no_blocks h e = refl
   blocks-normal in_item (block b bs) h e =
       let c = changed_block encoded_address b in
       let p = and_parts (is_normal_block in_item b) (are_normal_blocks false bs) h in
-      let r = and_parts (is_settled_block c) (are_settled_blocks (encoded bs)) e in
+      let r = and_parts (is_settled_alone c) (are_settled_alone (encoded bs)) e in
       and_from (is_normal_block in_item c) (are_normal_blocks false (encoded bs))
       (block-normal in_item b p.0 r.0) (blocks-normal false bs p.1 r.1)
 
@@ -506,13 +501,13 @@ mutual
       let p = and_parts (are_normal_blocks true bs) (are_normal_items rest) h in
       let r = and_parts (are_settled_blocks (encoded bs)) (are_settled_items others) e in
       and_from (are_normal_blocks true (encoded bs)) (are_normal_items others)
-      (blocks-normal true bs p.0 r.0) (items-normal rest p.1 r.1)
+      (blocks-normal true bs p.0 (settled-alone (encoded bs) r.0)) (items-normal rest p.1 r.1)
 
 pub encoded-normal : (d : Blocks) → IsNormal d → are_settled_blocks (encoded d) ≡ true → IsNormal (encoded d)
 encoded-normal d h e =
     let p = and_parts (are_normal_blocks false d) (nat_le (depth_among d) most_nested) h in
     and_from (are_normal_blocks false (encoded d)) (nat_le (depth_among (encoded d)) most_nested)
-    (blocks-normal false d p.0 e)
+    (blocks-normal false d p.0 (settled-alone (encoded d) e))
     (ap (λ n. nat_le n most_nested) (depth-same encoded_address d) ∙ p.1)
 
 pub settled-blocks : (d : Blocks) → are_settled d ≡ true → are_settled_blocks d ≡ true

@@ -1,5 +1,6 @@
 -- What is read, with other addresses that are encoded alike: it has the same trees, and the document with these.
-use Rattle.std.proofs.Common.{◌≡◌, ℕ, Bool, true, false, ◌&&◌, List, [], ◌∷◌, map, drop, codes, refl, sym, ap, ◌∙◌}
+use Rattle.std.proofs.Common.{◌≡◌, ℕ, Bool, true, false, ◌&&◌, List, [], ◌∷◌, map, drop, codes, refl}
+use Rattle.std.proofs.Common.{sym, ap, ◌∙◌}
 use Rattle.std.proofs.Common.{Option, Some, None, cond}
 use Rattle.std.specs.Str.{bytes_eq}
 use Rattle.std.proofs.lemmas.Bool.{and_parts}
@@ -29,6 +30,7 @@ use Rattle.htmd_law_rendering.specs.RenderedTrees.{spelled_of, begun_line, line_
 use Rattle.htmd_law_rendering.specs.SpelledTrees.{SpelledForest, none}
 use Rattle.htmd_law_returning.specs.EncodedDocuments.{changed_inline, changed_inlines, changed_cells, changed_block}
 use Rattle.htmd_law_returning.specs.EncodedDocuments.{changed, changed_items}
+use Rattle.htmd_law_rendering.proofs.PairedLemmas.{is_anchor, is_end}
 use Rattle.htmd_law_returning.proofs.RawReadings.{has_no_raw, cells_have_no_raw, rows_have_no_raw, block_has_no_raw}
 use Rattle.htmd_law_returning.proofs.RawReadings.{blocks_have_no_raw, items_have_no_raw}
 use Rattle.htmd_law_returning.proofs.TreesLemmas.{described, whole-described}
@@ -178,7 +180,7 @@ module _ (change : List ℕ → List ℕ) where
     pub trees-same : (bs : Blocks) → spelled_of (addressed_blocks bs) ≡ spelled_of bs
     trees-same bs = ap (λ o. o.first) (blocks-same false false bs)
 
-  -- ---- no raw tags
+  -- ---- no raw tags but those of anchors
 
   no-raw : (xs : Inlines) → has_no_raw (addressed xs) ≡ has_no_raw xs
   no-raw no_inlines = refl
@@ -189,7 +191,15 @@ module _ (change : List ℕ → List ℕ) where
   no-raw (image a t content xs) = rw (no-raw xs) refl
   no-raw (line_break xs) = no-raw xs
   no-raw (task d xs) = no-raw xs
-  no-raw (raw tag xs) = refl
+  no-raw (raw tag (raw end xs)) = ap (λ b. (is_anchor tag && is_end end) && b) (no-raw xs)
+  no-raw (raw tag no_inlines) = refl
+  no-raw (raw tag (letter c xs)) = refl
+  no-raw (raw tag (code s xs)) = refl
+  no-raw (raw tag (formatted f content xs)) = refl
+  no-raw (raw tag (link a t content xs)) = refl
+  no-raw (raw tag (image a t content xs)) = refl
+  no-raw (raw tag (line_break xs)) = refl
+  no-raw (raw tag (task d xs)) = refl
 
   no-raw-cells : (cells : List Inlines) → cells_have_no_raw (addressed_row cells) ≡ cells_have_no_raw cells
   no-raw-cells [] = refl
@@ -229,7 +239,7 @@ module _ (change : List ℕ → List ℕ) where
   described-addressed (image a t content xs) = rw (described-addressed xs) refl
   described-addressed (line_break xs) = ap line_break (described-addressed xs)
   described-addressed (task d xs) = ap (task d) (described-addressed xs)
-  described-addressed (raw tag xs) = described-addressed xs
+  described-addressed (raw tag xs) = ap (raw tag) (described-addressed xs)
 
   seen-addressed : (xs : Inlines) → has_no_raw xs ≡ true
       → seen_inlines (addressed xs) ≡ addressed (seen_inlines xs)

@@ -15,7 +15,8 @@ use Rattle.htmd_document_of_tree.specs.TreeDocuments.{document_by, document_of_t
 use Rattle.htmd_law_returning.specs.RenderedPages.{page_of}
 use Rattle.htmd_law_returning.specs.PlainImages.{blocks_have_plain_images}
 use Rattle.htmd_law_returning.specs.ReturningLaws.{whole_sight}
-use Rattle.htmd_law_returning.specs.SettledDocuments.{are_settled, said_in, weight_in}
+use Rattle.htmd_law_returning.specs.SettledDocuments.{are_settled, weight_in}
+use Rattle.htmd_law_returning.specs.SettledDocuments.{said}
 use Rattle.htmd_law_returning.specs.PageFormats.{formats_show}
 use lib.Utf8.{encode}
 
@@ -305,20 +306,25 @@ a_name_for_none_is_lost = refl
 
 -- ---- the budget
 
-abbrev said : Option Blocks → ℕ
-said None = 0
-said (Some d) = said_in d
+abbrev what_says : Option Blocks → ℕ
+what_says None = 0
+what_says (Some d) = said d
 
 abbrev weight : Option Blocks → ℕ
 weight None = 0
 weight (Some d) = weight_in d
 
--- three letters and two spaces, but not the description of an image
-what_is_said : said (document (codes "a `b` [c](d)![e](f)")) ≡ 5
+-- three letters, two spaces and an address, but not the description of an image
+what_is_said : what_says (document (codes "a `b` [c](d)![e](f)")) ≡ 6
 unfolding chars encode
 what_is_said = refl
 
-in_tables_and_code : said (document (codes "a|b\n-|-\nc|d\n\n```\nef\n```")) ≡ 6
+-- each address with its title once
+each_once : what_says (document (codes "[a](bc)[d](bc)[e](bc \"f\")")) ≡ 8
+unfolding chars encode
+each_once = refl
+
+in_tables_and_code : what_says (document (codes "a|b\n-|-\nc|d\n\n```\nef\n```")) ≡ 6
 unfolding chars encode
 in_tables_and_code = refl
 

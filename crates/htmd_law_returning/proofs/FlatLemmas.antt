@@ -1,7 +1,7 @@
--- Flat documents: of changed documents, without anchors, and what stands in some block of them.
-use Rattle.std.proofs.Common.{◌≡◌, ℕ, Bool, true, false, ◌||◌, refl, sym, ap, ◌∙◌, List, ◌∷◌, ◌++◌, Option, Some, None}
+-- Flat documents: of changed documents, and what stands in some block of them.
+use Rattle.std.proofs.Common.{◌≡◌, ℕ, Bool, true, false, ◌||◌, refl, sym, ap, ◌∙◌, List, ◌∷◌}
+use Rattle.std.proofs.Common.{◌++◌, Option, Some, None}
 use Rattle.htmd_lexical.specs.Characters.{line_feed}
-use Rattle.std.proofs.lemmas.Bool.{and_parts, and_from}
 use Rattle.htmd_document.specs.Documents.{Inlines, Block, paragraph, heading, code_block, quote, thematic_break, list}
 use Rattle.htmd_document.specs.Documents.{table, element, tags, Blocks, no_blocks, block, Items, no_items, item}
 use Rattle.htmd_document.specs.Documents.{inline, no_inlines, text, code, formatted, link, image, anchor, line_break}
@@ -12,7 +12,6 @@ use Rattle.htmd_document.specs.FlatDocuments.{line_before, element_before, flat_
 use Rattle.htmd_document.specs.FlatDocuments.{text_in_line}
 use Rattle.htmd_document.specs.Tags.{element_tag, end_of_element, element_line}
 use Rattle.htmd_law_returning.specs.EncodedDocuments.{changed_block, changed, changed_items}
-use Rattle.htmd_law_returning.specs.NoAnchors.{block_has_no_anchors, blocks_have_no_anchors, items_have_no_anchors}
 
 -- ---- with other addresses
 
@@ -87,58 +86,13 @@ module _ (change : List ℕ → List ℕ) where
     all-changed (block b bs) rest =
         before-changed b (flat_all bs rest) ∙ ap (flat_before (changed_block change b)) (all-changed bs rest)
 
-    items-changed : (items : Items)
+    pub items-changed : (items : Items)
         → changed_items change (flat_items items) ≡ flat_items (changed_items change items)
     items-changed no_items = refl
     items-changed (item bs rest) = rw (all-changed bs no_blocks, items-changed rest) refl
 
   pub flat-changed : (d : Blocks) → changed change (flattened d) ≡ flattened (changed change d)
   flat-changed d = all-changed d no_blocks
-
--- ---- without anchors
-
-line-free : (line : List ℕ) (rest : Blocks) → blocks_have_no_anchors rest ≡ true
-    → blocks_have_no_anchors (line_before line rest) ≡ true
-line-free line (block (tags s) bs) h = h
-line-free line rest h = h
-
-element-free : (name : BlockElement) (attributes : List BlockAttribute) (t : Option (List ℕ)) (inner rest : Blocks)
-    → blocks_have_no_anchors inner ≡ true → blocks_have_no_anchors rest ≡ true
-    → blocks_have_no_anchors (element_before name attributes t inner rest) ≡ true
-element-free name attributes None inner rest h k = line-free (element_tag name attributes) inner h
-element-free name attributes (Some s) inner rest h k = line-free (element_line name attributes s) rest k
-
-mutual
-  before-free : (b : Block) (rest : Blocks) → block_has_no_anchors b ≡ true → blocks_have_no_anchors rest ≡ true
-      → blocks_have_no_anchors (flat_before b rest) ≡ true
-  before-free (quote content) rest h k =
-      and_from (blocks_have_no_anchors (flattened content)) (blocks_have_no_anchors rest)
-      (all-free content no_blocks h refl) k
-  before-free (list start is_tight items) rest h k =
-      and_from (items_have_no_anchors (flat_items items)) (blocks_have_no_anchors rest) (items-free items h) k
-  before-free (element name attributes content) rest h k =
-      let last = line_before (end_of_element name) rest in
-      element-free name attributes (text_in_line content) (flat_all content last) rest
-      (all-free content last h (line-free (end_of_element name) rest k)) k
-  before-free b rest h k = and_from (block_has_no_anchors b) (blocks_have_no_anchors rest) h k
-
-  all-free : (bs rest : Blocks) → blocks_have_no_anchors bs ≡ true → blocks_have_no_anchors rest ≡ true
-      → blocks_have_no_anchors (flat_all bs rest) ≡ true
-  all-free no_blocks rest h k = k
-  all-free (block b bs) rest h k =
-      let p = and_parts (block_has_no_anchors b) (blocks_have_no_anchors bs) h in
-      before-free b (flat_all bs rest) p.0 (all-free bs rest p.1 k)
-
-  items-free : (items : Items) → items_have_no_anchors items ≡ true
-      → items_have_no_anchors (flat_items items) ≡ true
-  items-free no_items h = refl
-  items-free (item bs rest) h =
-      let p = and_parts (blocks_have_no_anchors bs) (items_have_no_anchors rest) h in
-      and_from (blocks_have_no_anchors (flattened bs)) (items_have_no_anchors (flat_items rest))
-      (all-free bs no_blocks p.0 refl) (items-free rest p.1)
-
-pub flat-free : (d : Blocks) → blocks_have_no_anchors d ≡ true → blocks_have_no_anchors (flattened d) ≡ true
-flat-free d h = all-free d no_blocks h refl
 
 -- ---- what stands in some block
 

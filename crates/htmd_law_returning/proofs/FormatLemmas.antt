@@ -1,6 +1,7 @@
 -- Formats: what is around, what shows of one, and what the title of an abbreviation costs.
 use Rattle.std.proofs.Common.{◌≡◌, ℕ, Bool, true, false, ◌&&◌, ◌||◌, ◌==◌, List, [], ◌∷◌}
-use Rattle.std.proofs.Common.{◌++◌, refl, sym, ap, ◌∙◌, arith, cond, subst, filter, length, Option, Some, None}
+use Rattle.std.proofs.Common.{◌++◌, refl, sym, ap, ◌∙◌, arith, cond, subst, filter, length, Option, Some}
+use Rattle.std.proofs.Common.{None}
 use Rattle.std.proofs.Common.{suc, ◌+◌, ◌*◌, ◌≤◌}
 use Rattle.std.proofs.Common.{◌<◌}
 use Rattle.std.specs.Prelude.{nat_le}
@@ -29,10 +30,11 @@ use Rattle.htmd_shown.specs.Repeats.{is_copied}
 use Rattle.htmd_shown.specs.Kinds.{has_table, have_table}
 use Rattle.htmd_shown.specs.Roles.{is_edged, is_verbatim, is_line_break, is_paragraph, is_item}
 use Rattle.htmd_shown.specs.SimpleTrees.{Simple, Simples}
-use Rattle.htmd_document_of_tree.specs.Limits.{characters, size, title_text}
+use Rattle.htmd_document_of_tree.specs.Limits.{Written, characters, size, title_text}
 use Rattle.htmd_shown.specs.Pieces.{greatest_count}
 use Rattle.htmd_law_rendering.specs.RenderedTrees.{format_name, pairs_of_format}
 use Rattle.htmd_law_returning.specs.SettledDocuments.{is_one_line, title_weight}
+use Rattle.htmd_law_returning.specs.SettledDocuments.{with_format}
 use Rattle.htmd_law_returning.specs.PageFormats.{format_shows}
 use Rattle.htmd_law_returning.proofs.AddressLemmas.{line-stays}
 use Rattle.htmd_law_returning.proofs.BareLemmas.{is_bare, are_bare}
@@ -251,16 +253,18 @@ abbreviation-size title h e =
 
 -- ---- costs
 
-unweighed : {i : ℕ} → (k n : ℕ) (t : Simple) → Spends k i t → Spends (0 * n + k) i t
-unweighed {i} k n t h = subst (λ j. Spends j i t) (sym none) h
+unweighed : {g : Written → Written} → (k n : ℕ) (t : Simple) → Spends k g t → Spends (0 * n + k) g t
+unweighed {g} k n t h = subst (λ j. Spends j g t) (sym none) h
   where
     none : 0 * n + k ≡ k
     none = omega arith
 
-pub format-spent : {i : ℕ} → (is_rich : Bool) (f : Format) (k n id : ℕ) (content : Simples)
+pub format-spent : {g : Written → Written} → (is_rich : Bool) (f : Format) (k n id : ℕ) (content : Simples)
     → format_shows is_rich f ≡ true
     → has_title f ≡ true → leaves_among content ≤ n → title_weight f * n + k < greatest_count
-    → AllSpend k i content → Spends (title_weight f * n + k) i (made id (format_role f) (pairs_of_format f) content)
+    → AllSpend k g content
+    → Spends (title_weight f * n + k) (λ w. g (with_format f w))
+    (made id (format_role f) (pairs_of_format f) content)
 format-spent is_rich Emphasis k n id content h t counted light inner =
     unweighed k n (made id (format_role Emphasis) [] content)
     (spend-element k id (format_role Emphasis) (facts_of content) [] content refl inner)
@@ -293,7 +297,8 @@ format-spent is_rich Keyboard k n id content h t counted light inner =
     (spend-element k id (format_role Keyboard) (facts_of content) [] content refl inner)
 format-spent is_rich (Abbreviation title) k n id content h t counted light inner =
     let line = (and_parts is_rich (is_one_line title) h).1 in
-    spend-carrying (suc (characters title)) k n id role.Abbreviation (pairs_of_format (Abbreviation title)) content refl
+    spend-carrying (suc (characters title)) k n id role.Abbreviation (pairs_of_format (Abbreviation title)) content []
+    title refl refl (ap (λ t. unwrap_or t []) (abbreviation-title title t line))
     (less (abbreviation-size title t line)) counted
     (count-light (characters title) n (omega (arith, light))) inner
   where

@@ -35,9 +35,11 @@ use Rattle.htmd_law_returning.specs.SettledDocuments.{is_settled_address, is_set
 use Rattle.htmd_law_returning.proofs.AddressLemmas.{encoded-stays, address-stays, title-stays, line-stays}
 use Rattle.htmd_law_returning.proofs.AddressLemmas.{own-title, own-description}
 use Rattle.htmd_law_returning.proofs.StartLemmas.{false-true, true-false}
+use Rattle.htmd_document_of_tree.specs.Limits.{Written}
+use Rattle.htmd_document_of_tree.specs.Limits.{with_text}
 use Rattle.htmd_law_returning.proofs.CostLemmas.{AllSpend, spend-none, spend-text, spend-more}
 use Rattle.htmd_law_returning.proofs.CostLemmas.{spend-element, leaves-more, one-leaf}
-use Rattle.htmd_law_returning.proofs.CostLemmas.{spend-past}
+use Rattle.htmd_law_returning.proofs.CostLemmas.{spend-past, all-less}
 use Rattle.htmd_shown.specs.Pieces.{greatest_count}
 use Rattle.htmd_law_returning.proofs.FormatLemmas.{any-more}
 
@@ -99,10 +101,6 @@ pub line-end-unseen : marks.letters (line_feed ∷ []) ≡ []
 line-end-unseen = ap (filter marks.is_seen) line-end-characters
 
 -- a link that isn't for its own place
-pub no-sign : (a b c : Bool) → (a && b) ≡ false → (a && (b && c)) ≡ false
-no-sign true true c h = true-false h
-no-sign true false c h = refl
-no-sign false b c h = refl
 
 -- of two, in a heading or not
 pub show-both : (h a b s t : Bool) → ((not h || (a && b)) && (s && t)) ≡ true
@@ -115,11 +113,10 @@ show-both true a b s t e =
     (and_from a s q.0 r.0, and_from b t q.1 r.1)
 
 -- a link that isn't for its own place shows
-pub away-shown : (h a p o i : Bool) → (not h || not a) ≡ true → (p && o) ≡ a
-    → (h && (p && (o && i))) ≡ false
-away-shown false a p o i e q = refl
-away-shown true true p o i e q = false-true e
-away-shown true false p o i e q = no-sign p o i q
+pub away-shown : (h a b : Bool) → (not h || not a) ≡ true → b ≡ a → (h && b) ≡ false
+away-shown false a b e q = refl
+away-shown true true b e q = false-true e
+away-shown true false b e q = q
 
 pub line-end-fed : (w : Writing) (around : List Around) (s : List ℕ)
     → fed w (part.run (line_feed ∷ s) around false)
@@ -147,21 +144,29 @@ pub at-most-suc : {a b : ℕ} → a ≡ b → a ≤ suc b
 at-most-suc h = omega (arith, h)
 
 -- a break and the line's end after it
-pub broken-spent : {n : ℕ} → (id k : ℕ) (s : List ℕ) (ts : Simples) → AllSpend k n ts
-    → AllSpend (0 + k) (0 + n) (more (made id role.LineBreak [] none) (more (simple.text s) ts))
+pub broken-spent : {g : Written → Written} → (id k : ℕ) (s : List ℕ) (ts : Simples) → AllSpend k g ts
+    → AllSpend (0 + k) g (more (made id role.LineBreak [] none) (more (simple.text s) ts))
 broken-spent id k s ts h =
     spend-more 0 k (made id role.LineBreak [] none) (more (simple.text s) ts)
     (spend-element 0 id role.LineBreak (facts_of none) [] none refl spend-none)
     (spend-past k (simple.text s) ts (spend-text s) h)
 
 -- the text behind the break begins with that end
-pub broken-text : {n : ℕ} → (id k : ℕ) (s : List ℕ) (ts : Simples) → AllSpend k n (more (simple.text s) ts)
-    → AllSpend (0 + k) (0 + n) (more (made id role.LineBreak [] none) (more (simple.text (line_feed ∷ s)) ts))
-broken-text id k s ts h =
+pub broken-text : {g : Written → Written} → (id k : ℕ) (s : List ℕ) (ts : Simples)
+    → AllSpend k g (more (simple.text s) ts)
+    → AllSpend (0 + k) g (more (made id role.LineBreak [] none) (more (simple.text (line_feed ∷ s)) ts))
+broken-text {g} id k s ts h =
     let longer : length (chars (line_feed ∷ s)) ≡ suc (length (chars s)) = ap length (characters-behind s) in
-    let own : AllSpend k 0 ts = (h.0, omega arith) in
-    let plain = broken-spent id k (line_feed ∷ s) ts own in
-    (plain.0, omega (arith, h.1, longer))
+    let words : Simples = more (simple.text (line_feed ∷ s)) ts in
+    let own : AllSpend k g words = (
+      h.0,
+      λ v w l.
+          let less = h.1 v w l in
+          let rest = all-less (with_text w s) (with_text w (line_feed ∷ s)) ts (refl, omega (arith, longer)) in
+          (less.0 ∙ rest.0, omega (arith, less.1, rest.1)),
+    ) in
+    spend-more 0 k (made id role.LineBreak [] none) words
+    (spend-element 0 id role.LineBreak (facts_of none) [] none refl spend-none) own
 
 pub broken-counted : (id k : ℕ) (s : List ℕ) (ts : Simples) → leaves_among ts ≤ k
     → leaves_among (more (made id role.LineBreak [] none) (more (simple.text s) ts)) ≤ 1 + k
@@ -171,8 +176,8 @@ broken-counted id k s ts h =
     omega (arith, rest)
 
 -- and without that
-pub unended-spent : {n : ℕ} → (id k : ℕ) (ts : Simples) → AllSpend k n ts
-    → AllSpend (0 + k) (0 + n) (more (made id role.LineBreak [] none) ts)
+pub unended-spent : {g : Written → Written} → (id k : ℕ) (ts : Simples) → AllSpend k g ts
+    → AllSpend (0 + k) g (more (made id role.LineBreak [] none) ts)
 unended-spent id k ts h =
     spend-more 0 k (made id role.LineBreak [] none) ts
     (spend-element 0 id role.LineBreak (facts_of none) [] none refl spend-none) h

@@ -9,7 +9,9 @@ use Rattle.htmd_law_rendering.specs.SpelledTrees.{SpelledForest, none, more, tex
 use Rattle.htmd_law_rendering.specs.SpelledTrees.{short}
 use Rattle.htmd_law_rendering.specs.RenderedTrees.{text_before, format_name, pairs_of_format, pairs_of_image}
 use Rattle.htmd_law_rendering.specs.RenderedTrees.{inlines_trees, pairs_of_link, pairs_of_box, line_end}
+use Rattle.htmd_law_inlines.specs.PlainReadings.{is_untagged}
 use Rattle.htmd_law_returning.proofs.RawReadings.{has_no_raw}
+use Rattle.htmd_law_returning.proofs.TreesLemmas.{anchor-first, pairs_of_anchor}
 use Rattle.htmd_law_returning.proofs.StartLemmas.{false-true}
 
 -- trees, a line's end in their last text or as a text of its own, and the rest
@@ -43,7 +45,7 @@ inlines-ended (link a t content xs) rest h =
     (inlines-ended xs rest (and_parts (has_no_raw content) (has_no_raw xs) h).1)
 inlines-ended (image a t content xs) rest h =
     ap (more (element spaced (codes "img") (pairs_of_image a t (plain_text content)) none))
-    (inlines-ended xs rest (and_parts (has_no_raw content) (has_no_raw xs) h).1)
+    (inlines-ended xs rest (and_parts (is_untagged content) (has_no_raw xs) h).1)
 inlines-ended (line_break xs) rest h =
     ap (more (element spaced (codes "br") [] none)) (ap line_end (inlines-ended xs rest h)
     ∙ letter-ended line_feed rest (inlines_trees xs none))
@@ -51,4 +53,15 @@ inlines-ended (task d xs) rest h =
     ap (more (element short (codes "input") (pairs_of_box d) none)) (ap (text_before (space ∷ []))
     (inlines-ended xs rest h)
     ∙ letter-ended space rest (inlines_trees xs none))
-inlines-ended (raw tag xs) rest h = false-true h
+inlines-ended (raw tag (raw end xs)) rest h =
+    let k = anchor-first tag end xs h in
+    rw (k.is, k.none, k.ends)
+    (ap (more (element spaced (codes "a") (pairs_of_anchor k.id) none)) (inlines-ended xs rest k.rest))
+inlines-ended (raw tag no_inlines) rest h = false-true h
+inlines-ended (raw tag (letter c xs)) rest h = false-true h
+inlines-ended (raw tag (code s xs)) rest h = false-true h
+inlines-ended (raw tag (formatted f content xs)) rest h = false-true h
+inlines-ended (raw tag (link a t content xs)) rest h = false-true h
+inlines-ended (raw tag (image a t content xs)) rest h = false-true h
+inlines-ended (raw tag (line_break xs)) rest h = false-true h
+inlines-ended (raw tag (task d xs)) rest h = false-true h

@@ -1,15 +1,17 @@
 -- What is known of the nodes of a line: no table and no `pre` is among them, and something shows.
-use Rattle.std.proofs.Common.{◌≡◌, ℕ, ◌+◌, min, Bool, true, false, not, ◌&&◌, ◌||◌, List, [], ◌∷◌, refl, ap, ◌∙◌}
+use Rattle.std.proofs.Common.{◌≡◌, ℕ, ◌+◌, min, Bool, true, false, not, ◌&&◌, ◌||◌, List, []}
+use Rattle.std.proofs.Common.{◌∷◌, refl, ap, ◌∙◌}
 use Rattle.std.specs.Str.{chars}
 use Rattle.std.proofs.lemmas.Bool.{and_parts}
 use Rattle.std.specs.List.{list_all}
 use Rattle.htmd_lexical.specs.AttributePairs.{AttributePair}
+use Rattle.htmd_lexical.proofs.Cases.{test}
 use Rattle.htmd_lexical.specs.CharacterClasses.{is_empty}
 use Rattle.htmd_document.specs.Documents.{Inline, text, code, formatted, link, image, anchor, line_break, task}
 use Rattle.htmd_document.specs.Documents.{Inlines, no_inlines, inline}
 use Rattle.htmd_document.specs.Formats.{Format, Emphasis, Strong, Deleted, Superscript, Subscript, Inserted, Underlined}
 use Rattle.htmd_document.specs.Formats.{Marked, Small, Keyboard, Abbreviation}
-use Rattle.htmd_document.specs.NormalInlines.{is_text, is_trimmed, is_normal, are_normal, is_break}
+use Rattle.htmd_document.specs.NormalInlines.{is_text, is_trimmed, is_normal, are_normal, is_break, is_anchor}
 use Rattle.htmd_shown.specs.Facts.{made, pres, pres_among}
 use Rattle.htmd_shown.specs.Kinds.{has_table, have_table}
 use Rattle.htmd_shown.specs.Showings.{shows, show}
@@ -19,15 +21,17 @@ use Rattle.htmd_shown.specs.declared.role.Role.TheVariants as role
 use Rattle.htmd_shown.specs.Spaces.{is_white}
 use Rattle.htmd_law_returning.specs.SettledDocuments.{is_plain_text, begins_in_white}
 use Rattle.htmd_law_returning.specs.WholeLines.{begins_white_text, ends_white_text}
+use Rattle.htmd_law_returning.specs.NoAnchors.{have_no_anchors}
+use Rattle.htmd_law_returning.proofs.BareLemmas.{are_bare}
 use Rattle.htmd_law_returning.proofs.FormatLemmas.{format_role}
-use Rattle.htmd_law_returning.proofs.HeldLemmas.{is_held, are_held, are_black_ended}
+use Rattle.htmd_law_returning.proofs.HeldLemmas.{is_held, are_held, are_black_inside}
 use Rattle.htmd_law_returning.proofs.LineFormLemmas.{IsWhole, IsFormat, format-normal, IsLink, link-normal, normal-one}
-use Rattle.htmd_law_returning.proofs.LineFormLemmas.{settled-one}
+use Rattle.htmd_law_returning.proofs.LineFormLemmas.{settled-one, whole-after-anchor}
 use Rattle.htmd_law_returning.proofs.TextLemmas.{IsLine, text-line}
 use Rattle.htmd_law_returning.proofs.StartLemmas.{false-true, true-false, from-not}
 
 abbrev mutual
-  -- a line begins with what shows
+  -- a line begins with what shows, or with anchors before that
   pub is_seen : Inline → Bool
   is_seen (text s) = not (is_blank_text s)
   is_seen (code s) = not (is_blank_text s)
@@ -38,24 +42,56 @@ abbrev mutual
 
   pub begins_seen : Inlines → Bool
   begins_seen no_inlines = false
-  begins_seen (inline x rest) = is_seen x
+  begins_seen (inline x rest) = is_seen x || (is_anchor x && begins_seen rest)
 
 pub record AreInLine (xs : Inlines) (ts : Simples) : Type 0 where
   pub tableless : have_table ts ≡ false
   pub preless : pres_among ts ≡ 0
   pub shows : begins_seen xs ≡ true → show false ts ≡ true
 
+-- where it begins with what shows
+pub record AreLineTrees (xs : Inlines) (ts : Simples) : Type 0 where
+  pub tableless : have_table ts ≡ false
+  pub preless : pres_among ts ≡ 0
+  pub shows : show false ts ≡ true
+  pub bare : have_no_anchors xs ≡ true → are_bare ts ≡ true
+
+pub seen-trees : {xs : Inlines} {ts : Simples} → AreInLine xs ts → begins_seen xs ≡ true
+    → (have_no_anchors xs ≡ true → are_bare ts ≡ true) → AreLineTrees xs ts
+seen-trees own e bare = record {
+  tableless = own.tableless;
+  preless = own.preless;
+  shows = own.shows e;
+  bare = bare;
+}
+
 pub none-in-line : AreInLine no_inlines none
 none-in-line = record { tableless = refl; preless = refl; shows = λ e. false-true e }
 
 pub more-in-line : (x : Inline) (xs : Inlines) (tree : Simple) (ts : Simples)
-    → has_table tree ≡ false → pres tree ≡ 0 → (is_seen x ≡ true → shows false tree ≡ true)
+    → has_table tree ≡ false → pres tree ≡ 0 → is_anchor x ≡ false
+    → (is_seen x ≡ true → shows false tree ≡ true)
     → AreInLine xs ts
     → AreInLine (inline x xs) (more tree ts)
-more-in-line x xs tree ts t p s rest = record {
+more-in-line x xs tree ts t p a s rest = record {
   tableless = ap (λ b. b || have_table ts) t ∙ rest.tableless;
   preless = ap (λ k. min 2 (k + pres_among ts)) p ∙ ap (λ k. min 2 (0 + k)) rest.preless;
-  shows = λ e. ap (λ b. b || show false ts) (s e);
+  shows = λ e. ap (λ b. b || show false ts) (s (own-seen (is_seen x) (is_anchor x) (begins_seen xs) a e));
+}
+  where
+    own-seen : (a b c : Bool) → b ≡ false → (a || (b && c)) ≡ true → a ≡ true
+    own-seen true b c h e = refl
+    own-seen false true c h e = true-false h
+    own-seen false false c h e = e
+
+-- an anchor shows as nothing
+pub anchor-in-line : (s : List ℕ) (xs : Inlines) (id : ℕ) (attributes : List AttributePair) (ts : Simples)
+    → AreInLine xs ts
+    → AreInLine (inline (anchor s) xs) (more (made id role.Target attributes none) ts)
+anchor-in-line s xs id attributes ts rest = record {
+  tableless = rest.tableless;
+  preless = ap (λ k. min 2 (0 + k)) rest.preless;
+  shows = rest.shows;
 }
 
 -- behind a break stand nodes with a line's end before them or without
@@ -111,25 +147,37 @@ mutual
       → are_held xs ≡ true → begins_seen xs ≡ true
   line-seen no_inlines b fs whole normal held = true-false whole.some
   line-seen (inline x xs) b fs whole normal held =
-      one-seen x b fs whole.begins whole.starts (normal-one b fs x xs normal).own (settled-one x xs held).own
+      let good = normal-one b fs x xs normal in
+      let own = settled-one x xs held in
+      test (is_anchor x)
+      (λ a. either (is_seen x) (is_anchor x) (begins_seen xs) a
+      (line-seen xs b fs (whole-after-anchor x xs a own.followed whole.ends whole.closes) good.rest own.rest))
+      (λ a. ap (λ c. c || (is_anchor x && begins_seen xs))
+      (one-seen x b fs a whole.begins whole.starts good.own own.own))
+    where
+      either : (a b c : Bool) → b ≡ true → c ≡ true → (a || (b && c)) ≡ true
+      either true b c h e = refl
+      either false true c h e = e
+      either false false c h e = false-true h
 
-  one-seen : (x : Inline) (b : Bool) (fs : List Format) → begins_in_white x ≡ false → is_break x ≡ false
+  pub one-seen : (x : Inline) (b : Bool) (fs : List Format) → is_anchor x ≡ false → begins_in_white x ≡ false
+      → is_break x ≡ false
       → is_normal b fs x ≡ true → is_held x ≡ true → is_seen x ≡ true
-  one-seen (text s) b fs white breaks normal held = text-seen s held normal white
-  one-seen (code s) b fs white breaks normal held =
+  one-seen (text s) b fs other white breaks normal held = text-seen s held normal white
+  one-seen (code s) b fs other white breaks normal held =
       let own = and_parts (is_plain_text s && not (begins_white_text (chars s))) (not (ends_white_text (chars s)))
       held in
       let first = and_parts (is_plain_text s) (not (begins_white_text (chars s))) own.0 in
       text-seen s first.0 (and_parts (is_text s) (is_trimmed s) normal).0
       (from-not (begins_white_text (chars s)) first.1)
-  one-seen (formatted f c) b fs white breaks normal held =
-      let own = and_parts (are_black_ended c) (are_held c) held in
+  one-seen (formatted f c) b fs other white breaks normal held =
+      let own = and_parts (are_black_inside c) (are_held c) held in
       let g : IsFormat b fs f c = format-normal b fs f c normal own.0 in
       line-seen c b (f ∷ fs) g.whole g.normal own.1
-  one-seen (link a t c) b fs white breaks normal held =
+  one-seen (link a t c) b fs other white breaks normal held =
       let g : IsLink b fs a t c = link-normal b fs a t c normal held in
       line-seen c true fs g.whole g.normal g.settled
-  one-seen (image a t d) b fs white breaks normal held = refl
-  one-seen (anchor id) b fs white breaks normal held = false-true held
-  one-seen line_break b fs white breaks normal held = true-false breaks
-  one-seen (task d) b fs white breaks normal held = false-true held
+  one-seen (image a t d) b fs other white breaks normal held = refl
+  one-seen (anchor id) b fs other white breaks normal held = true-false other
+  one-seen line_break b fs other white breaks normal held = true-false breaks
+  one-seen (task d) b fs other white breaks normal held = false-true held

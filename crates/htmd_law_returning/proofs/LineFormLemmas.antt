@@ -2,7 +2,7 @@
 use Rattle.std.proofs.Common.{◌≡◌, ℕ, suc, Bool, true, false, not, ◌&&◌, ◌==◌, cond, List, []}
 use Rattle.std.proofs.Common.{◌∷◌}
 use Rattle.std.proofs.Common.{Option}
-use Rattle.std.proofs.Common.{refl, ap, encode_utf8_all}
+use Rattle.std.proofs.Common.{refl, sym, ap, ◌∙◌, encode_utf8_all}
 use Rattle.std.proofs.Common.{◌≤◌, arith}
 use Rattle.std.specs.Prelude.{encode_utf8}
 use Rattle.std.specs.Prelude.{nat_le}
@@ -17,7 +17,7 @@ use Rattle.htmd_document.specs.Formats.{Format, is_same_format}
 use Rattle.htmd_document.specs.NormalInlines.{is_text, is_trimmed, has_none, meets, is_normal, are_normal}
 use Rattle.htmd_document.specs.NormalInlines.{are_whole}
 use Rattle.htmd_document.specs.NormalInlines.{first_passes}
-use Rattle.htmd_document.specs.NormalInlines.{last_passes, is_break, is_barred, has_title}
+use Rattle.htmd_document.specs.NormalInlines.{last_passes, is_break, is_anchor, is_barred, has_title}
 use Rattle.htmd_document.specs.NormalInlines.{is_attribute, is_title}
 use Rattle.htmd_flow.specs.Nesting.{Wrapper, of_format, wrapper_of, shared, text_or_code}
 use Rattle.htmd_flow.specs.Nesting.{joined}
@@ -36,20 +36,16 @@ use Rattle.htmd_law_returning.proofs.NestLemmas.{is_merging}
 use Rattle.htmd_law_returning.proofs.RunLemmas.{each_joined, joined-all}
 use Rattle.htmd_law_returning.proofs.TextLemmas.{IsLine, text-line}
 use Rattle.htmd_law_returning.proofs.StartLemmas.{false-true, true-false, from-not}
-use Rattle.htmd_law_returning.proofs.HeldLemmas.{are_black_ended}
+use Rattle.htmd_law_returning.proofs.HeldLemmas.{are_black_ended, are_black_inside, is_cut_off}
 use Rattle.htmd_law_returning.proofs.HeldLemmas.{are_held}
 use Rattle.htmd_law_returning.proofs.HeldLemmas.{is_held}
 use Rattle.htmd_law_returning.proofs.HeldLemmas.{is_held_code}
 use Rattle.htmd_law_returning.proofs.HeldLemmas.{is_parted}
-use Rattle.htmd_law_returning.specs.WholeLines.{begins_white_text}
+use Rattle.htmd_law_returning.specs.WholeLines.{begins_white, begins_white_text}
 use Rattle.htmd_law_returning.specs.WholeLines.{ends_white_text}
 use Rattle.htmd_law_returning.specs.WholeLines.{is_same_around}
 
 -- ---- what is beside each other
-
-abbrev pub is_text_one : Inline → Bool
-is_text_one (text s) = true
-is_text_one x = false
 
 -- after this nothing merges with what meets it
 pub apart-text : (z : Inline) (s : List ℕ) (xs : Inlines) → meets z (inline (text s) xs) ≡ true
@@ -164,16 +160,6 @@ around-differs (part.formatted f) (part.linked n u v) c d h o ms ns = refl
 around-differs (part.linked m u v) (part.formatted g) c d h o ms ns = refl
 around-differs (part.linked m u v) (part.linked n w x) c d h o ms ns = links-differ m n ms ns o
 
-pub text-merges : (z : Inline) (s : List ℕ) → is_text_one z ≡ true → is_merging z (text s) ≡ true
-text-merges (text t) s h = refl
-text-merges (code t) s h = false-true h
-text-merges (formatted f c) s h = false-true h
-text-merges (link a t c) s h = false-true h
-text-merges (image a t d) s h = false-true h
-text-merges (anchor id) s h = false-true h
-text-merges line_break s h = false-true h
-text-merges (task d) s h = false-true h
-
 pub each-text : (k : Bool) (cs : List ℕ) (xs : Inlines) → is_empty cs ≡ false
     → each_joined k xs cs ≡ joined xs (text_or_code k (encode_utf8_all cs))
 each-text k [] xs h = true-false h
@@ -197,18 +183,23 @@ pub record IsSettledOne (x : Inline) (xs : Inlines) : Type 0 where
   pub own : is_held x ≡ true
   pub apart : is_parted x xs ≡ false
   pub beside : is_white_at_break x xs ≡ false
+  pub followed : is_cut_off x xs ≡ false
   pub rest : are_held xs ≡ true
 
 pub settled-one : (x : Inline) (xs : Inlines) → are_held (inline x xs) ≡ true → IsSettledOne x xs
 settled-one x xs h =
-    let parts = and_parts ((is_held x && not (is_parted x xs)) && not (is_white_at_break x xs))
-    (are_held xs) h in
-    let more = and_parts (is_held x && not (is_parted x xs)) (not (is_white_at_break x xs)) parts.0 in
-    let one = and_parts (is_held x) (not (is_parted x xs)) more.0 in
+    let held : Bool = is_held x in
+    let apart : Bool = not (is_parted x xs) in
+    let beside : Bool = not (is_white_at_break x xs) in
+    let parts = and_parts (((held && apart) && beside) && not (is_cut_off x xs)) (are_held xs) h in
+    let most = and_parts ((held && apart) && beside) (not (is_cut_off x xs)) parts.0 in
+    let more = and_parts (held && apart) beside most.0 in
+    let one = and_parts held apart more.0 in
     record {
       own = one.0;
       apart = from-not (is_parted x xs) one.1;
       beside = from-not (is_white_at_break x xs) more.1;
+      followed = from-not (is_cut_off x xs) most.1;
       rest = parts.1;
     }
 
@@ -270,25 +261,48 @@ whole-after-break (inline y xs) h b e u = record {
   closes = u;
 }
 
+-- after an anchor stands what shows, or another one
+pub whole-first : (y : Inline) (xs : Inlines) → begins_white (inline y xs) ≡ false
+    → (begins_in_white y ≡ false) × (is_break y ≡ false)
+whole-first (text s) xs h = (h, refl)
+whole-first (code s) xs h = (refl, refl)
+whole-first (formatted f c) xs h = (refl, refl)
+whole-first (link a t c) xs h = (refl, refl)
+whole-first (image a t d) xs h = (refl, refl)
+whole-first (anchor id) xs h = (refl, refl)
+whole-first line_break xs h = true-false h
+whole-first (task d) xs h = (refl, refl)
+
+pub whole-after-anchor : (x : Inline) (xs : Inlines) → is_anchor x ≡ true → is_cut_off x xs ≡ false
+    → last_passes ends_in_white (inline x xs) ≡ false → last_passes is_break (inline x xs) ≡ false
+    → IsWhole xs
+whole-after-anchor x no_inlines a h e u = true-false (sym (ap (λ b. b && true) a) ∙ h)
+whole-after-anchor x (inline y xs) a h e u =
+    let first = whole-first y xs (sym (ap (λ b. b && begins_white (inline y xs)) a) ∙ h) in
+    record { some = refl; begins = first.0; starts = first.1; ends = e; closes = u }
+
 pub record IsFormat (b : Bool) (fs : List Format) (f : Format) (c : Inlines) : Type 0 where
   pub whole : IsWhole c
   pub normal : are_normal b (f ∷ fs) c ≡ true
   pub free : is_barred fs f ≡ false
   pub titled : has_title f ≡ true
+  pub unled : first_passes is_anchor c ≡ false
 
 pub format-normal : (b : Bool) (fs : List Format) (f : Format) (c : Inlines) → is_normal b fs (formatted f c) ≡ true
-    → are_black_ended c ≡ true → IsFormat b fs f c
+    → are_black_inside c ≡ true → IsFormat b fs f c
 format-normal b fs f c h black =
     let parts = and_parts (((not (is_barred fs f) && has_title f) && not (has_none c)) && are_whole c)
     (are_normal b (f ∷ fs) c) h in
     let more = and_parts ((not (is_barred fs f) && has_title f) && not (has_none c)) (are_whole c) parts.0 in
     let some = and_parts (not (is_barred fs f) && has_title f) (not (has_none c)) more.0 in
     let own = and_parts (not (is_barred fs f)) (has_title f) some.0 in
+    let ends = and_parts (are_black_ended c) (not (first_passes is_anchor c)) black in
     record {
-      whole = whole-inlines c (from-not (has_none c) some.1) black;
+      whole = whole-inlines c (from-not (has_none c) some.1) ends.0;
       normal = parts.1;
       free = from-not (is_barred fs f) own.0;
       titled = own.1;
+      unled = from-not (first_passes is_anchor c) ends.1;
     }
 
 -- what is in a link

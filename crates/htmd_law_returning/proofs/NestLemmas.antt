@@ -12,7 +12,7 @@ use Rattle.htmd_flow.specs.Nesting.{wrapped_by, with_content}
 use Rattle.htmd_flow.specs.Parts as part
 use Rattle.htmd_flow.specs.Parts.{Around}
 use Rattle.htmd_flow.proofs.ParagraphsLemmas.{alike-wrapper}
-use Rattle.htmd_law_returning.proofs.StartLemmas.{true-false}
+use Rattle.htmd_law_returning.proofs.StartLemmas.{true-false, false-true}
 
 -- inlines and then others
 abbrev pub appended : Inlines → Inlines → Inlines
@@ -203,41 +203,67 @@ around-hole put around xs a h m c inner y =
     ∙ (h (suc m) (joined xs (wrapped_by a c)) (a ∷ inner) y
     ∙ ap put (in-last-joined (λ content. behind m content inner y) xs a c)))
 
--- ---- after a break
+-- ---- after what stands by itself
 
-some-broken : (xs ys : Inlines) → has_none (appended (appended xs (one_inline line_break)) ys) ≡ false
-some-broken no_inlines ys = refl
-some-broken (inline x xs) ys = refl
+-- nothing merges with it, and nothing is in it
+abbrev pub is_lone : Inline → Bool
+is_lone line_break = true
+is_lone (anchor id) = true
+is_lone x = false
 
--- nothing merges with a break
-joined-behind : (xs ys : Inlines) (y : Inline)
-    → joined (appended (appended xs (one_inline line_break)) ys) y
-    ≡ appended (appended xs (one_inline line_break)) (joined ys y)
-joined-behind no_inlines no_inlines y = refl
-joined-behind no_inlines (inline z ys) y = refl
-joined-behind (inline x xs) ys y =
-    joined-inner x (appended (appended xs (one_inline line_break)) ys) y (some-broken xs ys)
-    ∙ ap (inline x) (joined-behind xs ys y)
+met-lone : (z y : Inline) → is_lone z ≡ true → met z y ≡ inline z (one_inline y)
+met-lone (text s) y h = false-true h
+met-lone (code s) y h = false-true h
+met-lone (formatted f c) y h = false-true h
+met-lone (link a t c) y h = false-true h
+met-lone (image a t d) y h = false-true h
+met-lone (anchor id) y h = refl
+met-lone line_break y h = refl
+met-lone (task d) y h = false-true h
 
--- nothing is in one
-in-last-behind : (change : Inlines → Inlines) (xs ys : Inlines)
-    → in_last change (appended (appended xs (one_inline line_break)) ys)
-    ≡ appended (appended xs (one_inline line_break)) (in_last change ys)
-in-last-behind change no_inlines no_inlines = refl
-in-last-behind change no_inlines (inline z ys) = refl
-in-last-behind change (inline x xs) ys =
-    in-last-inner change x (appended (appended xs (one_inline line_break)) ys) (some-broken xs ys)
-    ∙ ap (inline x) (in-last-behind change xs ys)
+lone-content : (change : Inlines → Inlines) (z : Inline) → is_lone z ≡ true → with_content change z ≡ z
+lone-content change (text s) h = false-true h
+lone-content change (code s) h = false-true h
+lone-content change (formatted f c) h = false-true h
+lone-content change (link a t c) h = false-true h
+lone-content change (image a t d) h = false-true h
+lone-content change (anchor id) h = refl
+lone-content change line_break h = refl
+lone-content change (task d) h = false-true h
 
-behind-break : (m : ℕ) (xs ys : Inlines) (inner : List Around) (y : Inline)
-    → behind m (appended (appended xs (one_inline line_break)) ys) inner y
-    ≡ appended (appended xs (one_inline line_break)) (behind m ys inner y)
-behind-break zero xs ys inner y = joined-behind xs ys (wrapped inner y)
-behind-break (suc m) xs ys [] y = joined-behind xs ys y
-behind-break (suc m) xs ys (a ∷ inner) y = in-last-behind (λ content. behind m content inner y) xs ys
+some-behind : (xs : Inlines) (z : Inline) (ys : Inlines)
+    → has_none (appended (appended xs (one_inline z)) ys) ≡ false
+some-behind no_inlines z ys = refl
+some-behind (inline x xs) z ys = refl
+
+joined-behind : (xs : Inlines) (z : Inline) (ys : Inlines) (y : Inline) → is_lone z ≡ true
+    → joined (appended (appended xs (one_inline z)) ys) y ≡ appended (appended xs (one_inline z)) (joined ys y)
+joined-behind no_inlines z no_inlines y h = met-lone z y h
+joined-behind no_inlines z (inline x ys) y h = refl
+joined-behind (inline x xs) z ys y h =
+    joined-inner x (appended (appended xs (one_inline z)) ys) y (some-behind xs z ys)
+    ∙ ap (inline x) (joined-behind xs z ys y h)
+
+in-last-behind : (change : Inlines → Inlines) (xs : Inlines) (z : Inline) (ys : Inlines) → is_lone z ≡ true
+    → in_last change (appended (appended xs (one_inline z)) ys)
+    ≡ appended (appended xs (one_inline z)) (in_last change ys)
+in-last-behind change no_inlines z no_inlines h = ap one_inline (lone-content change z h)
+in-last-behind change no_inlines z (inline x ys) h = refl
+in-last-behind change (inline x xs) z ys h =
+    in-last-inner change x (appended (appended xs (one_inline z)) ys) (some-behind xs z ys)
+    ∙ ap (inline x) (in-last-behind change xs z ys h)
+
+behind-lone : (m : ℕ) (xs : Inlines) (z : Inline) (ys : Inlines) (inner : List Around) (y : Inline)
+    → is_lone z ≡ true
+    → behind m (appended (appended xs (one_inline z)) ys) inner y
+    ≡ appended (appended xs (one_inline z)) (behind m ys inner y)
+behind-lone zero xs z ys inner y h = joined-behind xs z ys (wrapped inner y) h
+behind-lone (suc m) xs z ys [] y h = joined-behind xs z ys y h
+behind-lone (suc m) xs z ys (a ∷ inner) y h = in-last-behind (λ content. behind m content inner y) xs z ys h
 
 -- the line goes on as one of its own
-pub break-hole : (put : Inlines → Inlines) (around : List Around) (xs : Inlines) → IsHole put around
-    → IsHole (λ ys. put (appended (appended xs (one_inline line_break)) ys)) around
-break-hole put around xs h m ys inner y =
-    h m (appended (appended xs (one_inline line_break)) ys) inner y ∙ ap put (behind-break m xs ys inner y)
+pub lone-hole : (put : Inlines → Inlines) (around : List Around) (xs : Inlines) (z : Inline) → is_lone z ≡ true
+    → IsHole put around
+    → IsHole (λ ys. put (appended (appended xs (one_inline z)) ys)) around
+lone-hole put around xs z e h m ys inner y =
+    h m (appended (appended xs (one_inline z)) ys) inner y ∙ ap put (behind-lone m xs z ys inner y e)

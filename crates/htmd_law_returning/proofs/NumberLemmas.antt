@@ -1,5 +1,6 @@
 -- A number that is written is read as itself.
-use Rattle.std.proofs.Common.{◌≡◌, ℕ, suc, ◌+◌, ◌-◌, ◌*◌, ◌/◌, ◌%◌, ◌≤◌, ◌<◌, true, false, cond}
+use Rattle.std.proofs.Common.{◌≡◌, ℕ, suc, ◌+◌, ◌-◌, ◌*◌, ◌/◌, ◌%◌, ◌≤◌, ◌<◌}
+use Rattle.std.proofs.Common.{true, false, cond}
 use Rattle.std.proofs.Common.{List, [], ◌∷◌, length, refl, ap, ◌∙◌, arith, Some, None}
 use Rattle.std.specs.Prelude.{take, min, pos, ◌^◌, nat_lt}
 use Rattle.std.specs.Char.{is_ascii_digit}

@@ -1,5 +1,6 @@
 -- The nodes of a line are one piece of a link: something shows between two breaks.
-use Rattle.std.proofs.Common.{◌≡◌, ℕ, Bool, true, false, not, ◌&&◌, cond, List, [], ◌∷◌, refl, sym, ap, ◌∙◌, Option}
+use Rattle.std.proofs.Common.{◌≡◌, ℕ, Bool, true, false, not, ◌&&◌, ◌||◌, cond, List, [], ◌∷◌}
+use Rattle.std.proofs.Common.{refl, sym, ap, ◌∙◌, Option}
 use Rattle.std.proofs.Common.{Some}
 use Rattle.std.specs.Prelude.{nat_lt}
 use Rattle.std.specs.List.{list_all}
@@ -21,11 +22,11 @@ use Rattle.htmd_shown.specs.Roles.{is_edged, is_line_break, is_verbatim}
 use Rattle.htmd_shown.specs.SimpleTrees.{Simple, Simples, none, more}
 use Rattle.htmd_shown.specs.SimpleTrees as simple
 use Rattle.htmd_shown.specs.Spaces.{is_white, is_blank_text}
-use Rattle.htmd_law_returning.specs.WholeLines.{begins_white_text, ends_white_text}
+use Rattle.htmd_law_returning.specs.WholeLines.{begins_white, begins_white_text, ends_white_text}
 use Rattle.htmd_law_returning.specs.SettledDocuments.{begins_in_white, ends_in_white, is_white_at_break}
 use Rattle.htmd_law_returning.proofs.BareLemmas.{is_joined, are_joined}
 use Rattle.htmd_law_returning.proofs.InlineLemmas.{characters-behind, line-end-characters}
-use Rattle.htmd_law_returning.proofs.LineFormLemmas.{IsWhole}
+use Rattle.htmd_law_returning.proofs.LineFormLemmas.{IsWhole, whole-first}
 use Rattle.htmd_law_returning.proofs.StartLemmas.{false-true, true-false}
 
 -- ---- where a link goes on
@@ -123,12 +124,13 @@ leaf-joined none_yet = refl
 leaf-joined has_shown = refl
 leaf-joined has_broken = refl
 
-blank-begins : (cs : List ℕ) → is_empty cs ≡ false → list_all is_white cs ≡ true
+pub blank-begins : (cs : List ℕ) → is_empty cs ≡ false → list_all is_white cs ≡ true
     → begins_white_text cs ≡ true
 blank-begins [] h e = true-false h
 blank-begins (c ∷ cs) h e = (and_parts (is_white c) (list_all is_white cs) e).0
 
-blank-ends : (cs : List ℕ) → is_empty cs ≡ false → list_all is_white cs ≡ true → ends_white_text cs ≡ true
+pub blank-ends : (cs : List ℕ) → is_empty cs ≡ false → list_all is_white cs ≡ true
+    → ends_white_text cs ≡ true
 blank-ends [] h e = true-false h
 blank-ends (c ∷ []) h e = (and_parts (is_white c) true e).0
 blank-ends (c ∷ d ∷ cs) h e =
@@ -273,4 +275,19 @@ text-end-pieced xs t ts own s f =
       after = ap (λ u. pieces_after_all (text_after s u) ts) same ∙ rest.after;
       stays = rest.stays;
       shows = rest.shows;
+    }
+
+-- an anchor is none either
+pub anchor-pieced : (a : List ℕ) (xs : Inlines) (id : ℕ) (attributes : List AttributePair) (ts : Simples)
+    → (has_none xs || begins_white xs) ≡ false → ArePieces xs ts
+    → ArePieces (inline (anchor a) xs) (more (made id role.Target attributes none) ts)
+anchor-pieced a no_inlines id attributes ts h own s f = true-false h
+anchor-pieced a (inline y ys) id attributes ts h own s f =
+    let rest : IsPieced s (inline y ys) ts = own s (λ e. whole-first y ys h) in
+    record {
+      next = rest.next;
+      joined = rest.joined;
+      after = rest.after;
+      stays = λ e. false-true e;
+      shows = λ e h g. rest.shows refl h g;
     }

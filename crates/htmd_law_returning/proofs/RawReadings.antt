@@ -1,20 +1,23 @@
--- What is read without raw tags in its lines.
+-- What is read without raw tags in its lines but those of anchors.
 use Rattle.std.specs.Prelude.{Bool, true, false, ◌&&◌, List, [], ◌∷◌}
 use Rattle.htmd_commonmark_reading.specs.Markup.{Inlines, no_inlines, letter, code, formatted, link, image, line_break}
 use Rattle.htmd_commonmark_reading.specs.Markup.{task, raw, Block, paragraph, heading, code_block, quote}
 use Rattle.htmd_commonmark_reading.specs.Markup.{thematic_break, list, table, html_block, Blocks, no_blocks, block}
 use Rattle.htmd_commonmark_reading.specs.Markup.{Items, no_items, item}
+use Rattle.htmd_law_rendering.proofs.PairedLemmas.{is_anchor, is_end}
+use Rattle.htmd_law_inlines.specs.PlainReadings.{is_untagged}
 
--- no raw tag stands in it
+-- no raw tag stands in it but the two of an anchor
 abbrev pub has_no_raw : Inlines → Bool
 has_no_raw no_inlines = true
 has_no_raw (letter c xs) = has_no_raw xs
 has_no_raw (code s xs) = has_no_raw xs
 has_no_raw (formatted f content xs) = has_no_raw content && has_no_raw xs
 has_no_raw (link a t content xs) = has_no_raw content && has_no_raw xs
-has_no_raw (image a t content xs) = has_no_raw content && has_no_raw xs
+has_no_raw (image a t content xs) = is_untagged content && has_no_raw xs
 has_no_raw (line_break xs) = has_no_raw xs
 has_no_raw (task d xs) = has_no_raw xs
+has_no_raw (raw tag (raw end xs)) = is_anchor tag && is_end end && has_no_raw xs
 has_no_raw (raw tag xs) = false
 
 abbrev pub cells_have_no_raw : List Inlines → Bool

@@ -23,26 +23,27 @@ use Rattle.htmd_shown.specs.SimpleTrees.{Simples, none, more}
 use Rattle.htmd_shown.specs.Facts.{made, facts_of}
 use Rattle.htmd_document_of_tree.specs.TreeDocuments.{document_by, document_of_tree}
 use Rattle.htmd_document_of_tree.specs.Limits.{always_written}
+use Rattle.htmd_document_of_tree.specs.Limits.{Written}
 use Rattle.htmd_document_of_tree.specs.declared.anchors.Anchors.{Anchors}
-use Rattle.htmd_law_rendering.specs.SpelledTrees.{value_forest as forest_of}
 use Rattle.htmd_law_rendering.specs.RenderedTrees.{encoded_address, trees_of}
 use Rattle.htmd_law_returning.specs.RenderedPages.{page_of}
 use Rattle.htmd_law_returning.proofs.RawReadings.{blocks_have_no_raw}
 use Rattle.htmd_law_returning.specs.PageFormats.{formats_show}
 use Rattle.htmd_law_returning.specs.ReturningLaws.{whole_sight, SettledReturns}
-use Rattle.htmd_law_returning.specs.SettledDocuments.{are_settled, have_bare_headers, is_light, said_in}
-use Rattle.htmd_law_returning.proofs.BareLemmas.{are_bare, bare-stay}
+use Rattle.htmd_law_returning.specs.SettledDocuments.{are_settled, have_bare_headers, is_light, said}
 use Rattle.htmd_law_returning.proofs.BlockTrees.{page_blocks, cut_blocks, page-seen, trees_in}
+use Rattle.htmd_law_returning.proofs.ElementForms.{settled-alone}
 use Rattle.htmd_law_returning.proofs.ElementTrees.{elements-from}
-use Rattle.htmd_law_returning.proofs.FlatLemmas.{flat-changed, flat-free, flattened-any}
-use Rattle.htmd_law_returning.proofs.BlockLemmas.{AreReturned, list_in, list-in}
+use Rattle.htmd_law_returning.proofs.FlatLemmas.{flat-changed, flattened-any}
+use Rattle.htmd_law_returning.proofs.ReturnedBlocks.{AreReturned, list-in}
 use Rattle.htmd_law_returning.proofs.TaskLemmas.{unboxed, may-always}
 use Rattle.htmd_law_returning.proofs.BlockLemmas as blocks
-use Rattle.htmd_law_returning.proofs.FlowLemmas.{frame-blocks}
+use Rattle.htmd_law_returning.proofs.AloneLemmas.{frame-blocks}
 use Rattle.htmd_law_returning.proofs.PageLemmas.{frame, shown_of, framed, fresh-first}
 use Rattle.htmd_law_returning.proofs.CostLemmas.{AllSpend, spend-none, spend-more, spend-element, spend-within}
 use Rattle.htmd_law_returning.proofs.CostLemmas.{within-budget}
 use Rattle.htmd_shown.specs.Pieces.{greatest_count}
+use Rattle.htmd_law_rendering.specs.SpelledTrees.{value_forest as forest_of}
 use Rattle.htmd_law_returning.specs.SettledDocuments.{are_settled_blocks, numbers_fit, weight_in}
 use Rattle.htmd_law_returning.specs.EncodedDocuments.{encoded}
 use Rattle.htmd_law_returning.proofs.ChangedLemmas.{formats-same}
@@ -57,15 +58,41 @@ use Rattle.htmd_law_returning.proofs.SoftLines.{soft_blocks, blocks-seen, soften
 use Rattle.htmd_law_returning.proofs.StandLemmas.{Stands}
 use Rattle.htmd_law_returning.proofs.StartLemmas.{in_blocks, begins_boxed}
 use Rattle.htmd_law_returning.proofs.OrderLemmas.{page-ordered}
+use Rattle.std.proofs.Common.{List}
+use Rattle.htmd_shown.specs.Shown.{followed_by}
+use Rattle.htmd_document_of_tree.specs.Anchors.{anchored}
+use Rattle.htmd_document_of_tree.specs.FirstPieces.{pieced_all}
+use Rattle.htmd_law_returning.specs.LastingAnchors.{Line, lines_in, blocks_keep, anchors_stay}
+use Rattle.htmd_law_returning.proofs.LocalAnchors.{local_all, pending_all, last_of}
+use Rattle.htmd_law_returning.proofs.StayLemmas.{stay-keep}
+use Rattle.htmd_law_returning.proofs.SoundBlocks.{AreSound, sound-none}
+use Rattle.htmd_law_returning.proofs.SoundNodes.{sound-more, sound-element}
+use Rattle.htmd_law_returning.proofs.HomeAnchors.{anchored-home}
 
-frame-bare : (html head body : ℕ) (ts : Simples) → are_bare ts ≡ true
-    → are_bare (frame html head body ts) ≡ true
-frame-bare html head body ts h = ap (λ b. (b && true) && true) h
+frame-sound : (html head body : ℕ) (ts : Simples) (ls : List Line) → AreSound ts ls
+    → AreSound (frame html head body ts) ls
+frame-sound html head body ts ls h =
+    let in_body : Simples = more (made body role.Block [] ts) none in
+    sound-element html role.Block [] (more (made head role.Plain [] none) in_body) ls refl refl
+    (sound-more (made head role.Plain [] none) in_body [] ls refl
+    (sound-element head role.Plain [] none [] refl refl sound-none)
+    (sound-element body role.Block [] ts ls refl refl h))
+
+-- they have anchors before what shows, and those that wait behind
+frame-home : (which : Anchors) (is_rich : Bool) (html head body : ℕ) (ts : Simples) (d : documents.Blocks)
+    (left : List (List ℕ)) → AreSound ts (lines_in d) → pending_all [] ts ≡ left
+    → anchors_stay which d ≡ true
+    → pieced_all (anchored which is_rich (frame html head body ts))
+    ≡ followed_by (local_all [] (frame html head body ts)) (last_of left)
+frame-home which is_rich html head body ts d left sound waits stay =
+    let whole : Simples = frame html head body ts in
+    anchored-home which is_rich whole d (frame-sound html head body ts (lines_in d) sound) stay
+    ∙ ap (λ ids. followed_by (local_all [] whole) (last_of ids)) waits
 
 -- the elements around cost nothing
-frame-spent : {n : ℕ} → (k html head body : ℕ) (ts : Simples) → AllSpend k n ts
-    → AllSpend k n (frame html head body ts)
-frame-spent {n} k html head body ts h =
+frame-spent : {g : Written → Written} → (k html head body : ℕ) (ts : Simples) → AllSpend k g ts
+    → AllSpend k g (frame html head body ts)
+frame-spent k html head body ts h =
     let in_body : Simples = more (made body role.Block [] ts) none in
     let in_html : Simples = more (made head role.Plain [] none) in_body in
     let bodies = spend-more k 0 (made body role.Block [] ts) none
@@ -74,19 +101,20 @@ frame-spent {n} k html head body ts h =
     (spend-element 0 head role.Plain (facts_of none) [] none refl spend-none) bodies in
     let all = spend-more (0 + (k + 0)) 0 (made html role.Block [] in_html) none
     (spend-element (0 + (k + 0)) html role.Block (facts_of in_html) [] in_html refl heads) spend-none in
-    spend-within ((0 + (k + 0)) + 0) k n (frame html head body ts) (omega arith) (omega arith) all
+    spend-within ((0 + (k + 0)) + 0) k (frame html head body ts) (omega arith) all
 
 -- so is the page of what is read where its trees stand for those of others that are seen as the document
 pub returned-standing : (which : Anchors) (scripting is_rich : Bool) (bs cs : Blocks) (d : documents.Blocks)
     → Stands (trees_of bs) (trees_of cs) → blocks_have_no_raw cs ≡ true
     → document_blocks (seen_blocks cs) ≡ Some (flattened d) → IsNormal d → are_settled d ≡ true
-    → formats_show is_rich d ≡ true → (is_rich && have_odd_tables (page_blocks cs)) ≡ false
+    → anchors_stay which d ≡ true → formats_show is_rich d ≡ true
+    → (is_rich && have_odd_tables (page_blocks cs)) ≡ false
     → document_of_tree which (whole_sight scripting is_rich) (page_of bs) ≡ d
 unfolding document_of_tree document_by
-returned-standing which scripting is_rich bs cs d stands raw seen normal settled formats plain =
+returned-standing which scripting is_rich bs cs d stands raw seen normal settled stay formats plain =
     let form = and_parts (are_normal_blocks false d) (nat_le (depth_among d) most_nested) normal in
     let page = elements-from cs d raw (ap (λ o. unwrap_or o (flattened d)) (sym (page-seen cs raw) ∙ seen))
-    (settled-blocks d settled) form.0 in
+    (settled-alone d (settled-blocks d settled)) form.0 in
     let p : documents.Blocks = page.page in
     let is : cut_blocks p ≡ d = page.same in
     let good = and_parts (are_normal_blocks false (cut_blocks p)) (nat_le (depth_among (cut_blocks p)) most_nested)
@@ -95,10 +123,9 @@ returned-standing which scripting is_rich bs cs d stands raw seen normal settled
     (is_light (cut_blocks p)) (ap are_settled is ∙ settled) in
     let own = and_parts (are_settled_blocks (cut_blocks p)) (numbers_fit 0 (cut_blocks p)) ready.0 in
     let k : ℕ = weight_in (cut_blocks p) in
-    let said : ℕ = said_in (cut_blocks p) in
-    let cheap = and_parts (nat_lt k greatest_count) (nat_le k (16 * said + always_written)) ready.1 in
+    let cheap = and_parts (nat_lt k greatest_count) (nat_le k (16 * said (cut_blocks p) + always_written)) ready.1 in
     let light : weight_in (cut_blocks p) < greatest_count = grind (arith, nat_tests, cheap.0) in
-    let paid : weight_in (cut_blocks p) ≤ 16 * said_in (cut_blocks p) + always_written =
+    let paid : weight_in (cut_blocks p) ≤ 16 * said (cut_blocks p) + always_written =
     grind (arith, nat_tests, cheap.1) in
     let fits : depth_among (cut_blocks p) + 0 ≤ most_nested = grind (arith, nat_tests, good.1) in
     let f =
@@ -107,20 +134,24 @@ returned-standing which scripting is_rich bs cs d stands raw seen normal settled
     let body : Stands (value_forest f.inside) (trees_in p) =
     subst (λ us. Stands us (trees_in p)) (sym f.within)
     (subst (Stands (trees_of bs)) (ap forest_of page.trees) stands) in
-    let all : AreReturned scripting is_rich None f.inside 0 (cut_blocks p) =
-    blocks.returned scripting is_rich p false None f.inside 0 fresh-first body own.0
+    let all : AreReturned scripting is_rich true None f.inside 0 (cut_blocks p) =
+    blocks.returned scripting is_rich p false true None f.inside 0 fresh-first body own.0
+    (ap (blocks_keep true) is ∙ stay-keep which d stay form.0 (settled-blocks d settled))
     (ap (formats_show is_rich) is ∙ formats) good.0 fits own.1
     (ap (λ x. is_rich && x) (sym (flattened-any odd-any p) ∙ ap have_odd_tables page.flat) ∙ plain) light 0
     f.ordered in
     let ts : Simples = shown_of scripting is_rich None f.inside in
+    let in_html : Simples = more (made f.head role.Plain [] none) (more (made f.body role.Block [] ts) none) in
     let whole : Simples = frame f.html f.head f.body ts in
     ap (λ us. document_by which is_rich us) f.is
-    ∙ (ap (flow.document_of is_rich)
-    (bare-stay which is_rich whole (frame-bare f.html f.head f.body ts all.bare)
-    (within-budget k said whole paid (frame-spent k f.html f.head f.body ts all.spent)))
-    ∙ (frame-blocks is_rich f.html f.head f.body ts (list_in (cut_blocks p)) (λ w h. all.ready in_blocks w [] h
+    ∙ (ap (λ us. flow.document_of is_rich (pieced_all (anchored which is_rich us)))
+    (within-budget k whole paid (frame-spent k f.html f.head f.body ts all.spent))
+    ∙ ap (flow.document_of is_rich) (frame-home which is_rich f.html f.head f.body ts (cut_blocks p) all.left
+    all.sound all.waits (ap (anchors_stay which) is ∙ stay))
+    ∙ (frame-blocks is_rich f.html f.head f.body (facts_of in_html) (facts_of none) (facts_of ts) (local_all [] ts)
+    all.left all.kept (λ w h. all.ready in_blocks w [] h
     (may-always (begins_boxed (cut_blocks p)) in_blocks [] (unboxed (cut_blocks p) good.0)))
-    ∙ (list-in (cut_blocks p) ∙ is)))
+    ∙ (ap documents.blocks_of all.whole ∙ (list-in (cut_blocks p) ∙ is))))
 
 -- no table is another on a rich page
 rich-even : (is_rich : Bool) (bs : Blocks) → (not is_rich || blocks_have_fitted_rows bs) ≡ true
@@ -132,17 +163,17 @@ rich-even false bs h e = refl
 -- with tags of breaks as breaks, and its lines as one sees them, what is read has no raw tags; and with its addresses
 -- encoded it has the same trees
 pub returned : SettledReturns
-returned which scripting is_rich bs d images same normal settled unanchored formats tables fitted =
+returned which scripting is_rich bs d images same normal settled stay formats tables fitted =
     let soft : Blocks = soft_blocks bs in
     let good = settled-blocks (encoded d) settled in
     let flat : documents.Blocks = flattened d in
     let seen = without-raw soft flat (ap document_blocks (blocks-seen bs) ∙ same)
-    (blocks-pairs bs flat images same (flat-free d unanchored)) in
+    (blocks-pairs bs flat images same) in
     let lines : Blocks = line_blocks soft in
     let cs : Blocks = addressed_blocks kept_address lines in
     let is_seen : document_blocks (seen_blocks cs) ≡ Some (flattened (encoded d)) =
     document-changed kept_address lines flat seen.none_raw seen.seen
-    ∙ ap Some (flat-changed kept_address d ∙ ap flattened (blocks-kept d good)) in
+    ∙ ap Some (flat-changed kept_address d ∙ ap flattened (blocks-kept d (settled-alone (encoded d) good))) in
     let none_raw : blocks_have_no_raw cs ≡ true = no-raw-blocks kept_address lines ∙ seen.none_raw in
     let is : cut_blocks (page_blocks cs) ≡ flattened (encoded d) =
     ap (λ o. unwrap_or o (flattened (encoded d))) (sym (page-seen cs none_raw) ∙ is_seen) in
@@ -150,7 +181,7 @@ returned which scripting is_rich bs d images same normal settled unanchored form
     (subst (Stands (trees_of bs)) (ap forest_of (sym seen.trees ∙ sym (trees-same kept_address kept-same lines)))
     (softened-stands bs))
     none_raw is_seen
-    (encoded-normal d normal good) settled (formats-same encoded_address is_rich d ∙ formats)
+    (encoded-normal d normal good) settled stay (formats-same encoded_address is_rich d ∙ formats)
     (rich-even is_rich bs fitted
     (ap (λ x. is_rich && have_bare_headers x) is ∙ (ap (λ x. is_rich && x)
     (flattened-any bare-any (encoded d) ∙ tables-same encoded_address d) ∙ tables)))

@@ -17,17 +17,18 @@ use Rattle.htmd_flow.specs.Parts.{Part}
 use Rattle.htmd_flow.specs.TableElements as elements
 use Rattle.htmd_flow.specs.Tables as tables
 use Rattle.htmd_shown.specs.Attributes.{alignment, wide_span, row_span}
-use Rattle.htmd_shown.specs.Facts.{made, pres_among}
 use Rattle.htmd_shown.specs.Showings.{show}
-use Rattle.htmd_shown.specs.SimpleTrees.{Simple, Simples, text, none, more}
+use Rattle.htmd_shown.specs.declared.facts.Facts.{Facts}
+use Rattle.htmd_shown.specs.SimpleTrees.{Simple, Simples, text, none, more, element}
 use Rattle.htmd_shown.specs.declared.role.Role.{Role}
 use Rattle.htmd_shown.specs.declared.role.Role.TheVariants as role
 use Rattle.htmd_commonmark_reading.specs.Rendering.{first_alignment}
 use Rattle.htmd_law_rendering.specs.RenderedTrees.{pairs_of_alignment}
-use Rattle.htmd_law_returning.proofs.FlowLemmas.{here, parts_of, line-fed, paragraph-ends}
+use Rattle.htmd_law_returning.proofs.ReadyLemmas.{here, parts_of}
+use Rattle.htmd_law_returning.proofs.FlowLemmas.{line-fed, paragraph-ends}
 use Rattle.htmd_law_returning.proofs.HeldLemmas.{are_held}
 use Rattle.htmd_law_returning.proofs.LineFormLemmas.{IsWhole}
-use Rattle.htmd_law_returning.proofs.LineLemmas.{parts_in, Numbers, is_rising}
+use Rattle.htmd_law_returning.proofs.LineParts.{parts_in, Numbers, is_rising}
 use Rattle.htmd_law_returning.proofs.StartLemmas.{in_blocks, clean, false-true}
 use Rattle.htmd_lexical.specs.Characters.{line_feed}
 use lib.Utf8.{encode}
@@ -127,60 +128,64 @@ module _ (is_rich : Bool) (n : ℕ) where
     shows = λ e. false-true e;
   }
 
-  cell-gives : (id : ℕ) (is_header : Bool) (a : Alignment) (content ts : Simples) (c : Inlines)
-      → pres_among content ≡ 0 → flow.blocks_of false (parts_of is_rich n content) ≡ cell_blocks c
+  cell-gives : (id : ℕ) (facts : Facts) (is_header : Bool) (a : Alignment) (content ts : Simples) (c : Inlines)
+      → facts.pres ≡ 0 → flow.blocks_of false (parts_of is_rich n content) ≡ cell_blocks c
       → map (flow.cell_with_blocks false is_header (here is_rich n)) (cells_among
-      (more (made id (cell_role is_header) (pairs_of_alignment a) content) (more line_tree ts)))
+      (more (element id (cell_role is_header) facts (pairs_of_alignment a) content) (more line_tree ts)))
       ≡ made_cell is_header a c ∷ map (flow.cell_with_blocks false is_header (here is_rich n)) (cells_among ts)
   unfolding node_of
-  cell-gives id true a content ts c p e = rw (e, aligned-one-column a, alignment-said a) refl
-  cell-gives id false a content ts c p e = rw (p, e, aligned-one-column a, alignment-said a) refl
+  cell-gives id facts true a content ts c p e = rw (e, aligned-one-column a, alignment-said a) refl
+  cell-gives id facts false a content ts c p e = rw (p, e, aligned-one-column a, alignment-said a) refl
 
-  cell-alone : (id : ℕ) (is_header : Bool) (attributes : List AttributePair) (content ts : Simples)
+  cell-alone : (id : ℕ) (facts : Facts) (is_header : Bool) (attributes : List AttributePair) (content ts : Simples)
       → list_all (tables.is_cell_or_nothing true) (list_of ts) ≡ true
       → list_all (tables.is_cell_or_nothing true)
-      (list_of (more (made id (cell_role is_header) attributes content) (more line_tree ts))) ≡ true
+      (list_of (more (element id (cell_role is_header) facts attributes content) (more line_tree ts))) ≡ true
   unfolding chars encode
-  cell-alone id true attributes content ts h = h
-  cell-alone id false attributes content ts h = h
+  cell-alone id facts true attributes content ts h = h
+  cell-alone id facts false attributes content ts h = h
 
-  cell-spanless : (id : ℕ) (is_header : Bool) (a : Alignment) (content ts : Simples)
+  cell-spanless : (id : ℕ) (facts : Facts) (is_header : Bool) (a : Alignment) (content ts : Simples)
       → list_any (λ (m : flow.Node). flow.may_span m.tree) (cells_among ts) ≡ false
       → list_any (λ (m : flow.Node). flow.may_span m.tree) (cells_among
-      (more (made id (cell_role is_header) (pairs_of_alignment a) content) (more line_tree ts))) ≡ false
+      (more (element id (cell_role is_header) facts (pairs_of_alignment a) content) (more line_tree ts))) ≡ false
   unfolding node_of
-  cell-spanless id true a content ts h = rw (aligned-one-row a) h
-  cell-spanless id false a content ts h = rw (aligned-one-row a) h
+  cell-spanless id facts true a content ts h = rw (aligned-one-row a) h
+  cell-spanless id facts false a content ts h = rw (aligned-one-row a) h
 
-  cell-shows : (id : ℕ) (is_header : Bool) (attributes : List AttributePair) (content ts : Simples) (c : Inlines)
+  cell-shows : (id : ℕ) (facts : Facts) (is_header : Bool) (attributes : List AttributePair) (content ts : Simples)
+      (c : Inlines)
       (cs : List Inlines) → (is_some c ≡ true → show false content ≡ true)
       → (list_any is_some cs ≡ true
       → list_any (λ (m : flow.Node). flow.content_shows m.tree) (cells_among ts) ≡ true)
       → list_any is_some (c ∷ cs) ≡ true
       → list_any (λ (m : flow.Node). flow.content_shows m.tree) (cells_among
-      (more (made id (cell_role is_header) attributes content) (more line_tree ts))) ≡ true
+      (more (element id (cell_role is_header) facts attributes content) (more line_tree ts))) ≡ true
   unfolding node_of
-  cell-shows id true attributes content ts no_inlines cs s later h =
+  cell-shows id facts true attributes content ts no_inlines cs s later h =
       ap (λ b. show false content || b) (later h) ∙ or-true (show false content)
-  cell-shows id false attributes content ts no_inlines cs s later h =
+  cell-shows id facts false attributes content ts no_inlines cs s later h =
       ap (λ b. show false content || b) (later h) ∙ or-true (show false content)
-  cell-shows id true attributes content ts (inline x xs) cs s later h =
+  cell-shows id facts true attributes content ts (inline x xs) cs s later h =
       ap (λ b. b || list_any (λ (m : flow.Node). flow.content_shows m.tree) (cells_among ts)) (s refl)
-  cell-shows id false attributes content ts (inline x xs) cs s later h =
+  cell-shows id facts false attributes content ts (inline x xs) cs s later h =
       ap (λ b. b || list_any (λ (m : flow.Node). flow.content_shows m.tree) (cells_among ts)) (s refl)
 
-  pub more-rich-cells : (id : ℕ) (is_header : Bool) (alignments : List Alignment) (content ts : Simples) (c : Inlines)
-      (cs : List Inlines) → pres_among content ≡ 0 → (is_some c ≡ true → show false content ≡ true)
+  pub more-rich-cells : (id : ℕ) (facts : Facts) (is_header : Bool) (alignments : List Alignment)
+      (content ts : Simples)
+      (c : Inlines)
+      (cs : List Inlines) → facts.pres ≡ 0 → (is_some c ≡ true → show false content ≡ true)
       → flow.blocks_of false (parts_of is_rich n content) ≡ cell_blocks c
       → AreRichCells is_rich n is_header (drop 1 alignments) cs ts
       → AreRichCells is_rich n is_header alignments (c ∷ cs)
-      (more (made id (cell_role is_header) (pairs_of_alignment (first_alignment alignments)) content)
+      (more (element id (cell_role is_header) facts (pairs_of_alignment (first_alignment alignments)) content)
       (more line_tree ts))
-  more-rich-cells id is_header alignments content ts c cs p s e later =
+  more-rich-cells id facts is_header alignments content ts c cs p s e later =
       let a : Alignment = first_alignment alignments in
       record {
-        alone = cell-alone id is_header (pairs_of_alignment a) content ts later.alone;
-        gives = cell-gives id is_header a content ts c p e ∙ ap (λ xs. made_cell is_header a c ∷ xs) later.gives;
-        spanless = cell-spanless id is_header a content ts later.spanless;
-        shows = λ h. cell-shows id is_header (pairs_of_alignment a) content ts c cs s later.shows h;
+        alone = cell-alone id facts is_header (pairs_of_alignment a) content ts later.alone;
+        gives = cell-gives id facts is_header a content ts c p e
+            ∙ ap (λ xs. made_cell is_header a c ∷ xs) later.gives;
+        spanless = cell-spanless id facts is_header a content ts later.spanless;
+        shows = λ h. cell-shows id facts is_header (pairs_of_alignment a) content ts c cs s later.shows h;
       }

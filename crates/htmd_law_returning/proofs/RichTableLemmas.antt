@@ -1,5 +1,6 @@
 -- A rich page's table whose rows hold settled lines, and in whose header something shows, is GitHub's table.
-use Rattle.std.proofs.Common.{◌≡◌, ℕ, suc, ◌+◌, min, Bool, true, false, not, ◌&&◌, ◌||◌, cond, List, []}
+use Rattle.std.proofs.Common.{◌≡◌, ℕ, suc, ◌+◌, min, Bool, true, false, not, ◌&&◌, ◌||◌, cond, List}
+use Rattle.std.proofs.Common.{[]}
 use Rattle.std.proofs.Common.{◌∷◌, filter, map, drop, length, refl, ap, ◌∙◌, arith, Option, Some, nat_lt}
 use Rattle.std.specs.Prelude.{nat_le}
 use Rattle.std.specs.List.{list_all, list_any}
@@ -16,11 +17,11 @@ use Rattle.htmd_flow.specs.Levels.{list_of}
 use Rattle.htmd_flow.specs.Parts.{Part, edge, whole}
 use Rattle.htmd_flow.specs.TableElements as elements
 use Rattle.htmd_flow.specs.Tables as tables
-use Rattle.htmd_shown.specs.Facts.{made}
-use Rattle.htmd_shown.specs.SimpleTrees.{Simple, Simples, none, more}
+use Rattle.htmd_shown.specs.declared.facts.Facts.{Facts}
+use Rattle.htmd_shown.specs.SimpleTrees.{Simple, Simples, none, more, element}
 use Rattle.htmd_shown.specs.declared.role.Role.TheVariants as role
 use Rattle.htmd_commonmark_reading.specs.Rendering.{first_alignment}
-use Rattle.htmd_law_returning.proofs.FlowLemmas.{here}
+use Rattle.htmd_law_returning.proofs.ReadyLemmas.{here}
 use Rattle.htmd_law_returning.proofs.GridLemmas.{cut_row}
 use Rattle.htmd_law_returning.proofs.RichCellLemmas.{AreRichCells, rich_cells, made_cell, cell_of_rows, is_some}
 use Rattle.htmd_law_returning.proofs.RichCellLemmas.{line_tree}
@@ -63,22 +64,23 @@ module _ (is_rich : Bool) (n : ℕ) where
     kept = λ id h. refl;
   }
 
-  row-alone : (id : ℕ) (cells ts : Simples) → list_all (tables.is_cell_or_nothing true) (list_of cells) ≡ true
+  row-alone : (id : ℕ) (facts : Facts) (cells ts : Simples)
+      → list_all (tables.is_cell_or_nothing true) (list_of cells) ≡ true
       → list_all (tables.is_row_or_nothing true) (list_of ts) ≡ true
       → list_all (tables.is_row_or_nothing true)
-      (list_of (more (made id role.Row [] (more line_tree cells)) (more line_tree ts))) ≡ true
+      (list_of (more (element id role.Row facts [] (more line_tree cells)) (more line_tree ts))) ≡ true
   unfolding chars encode
-  row-alone id cells ts h k =
+  row-alone id facts cells ts h k =
       ap (λ b. b && list_all (tables.is_row_or_nothing true) (list_of ts)) h ∙ k
 
-  pub more-rich-rows : (id : ℕ) (alignments : List Alignment) (cells ts : Simples) (r : List Inlines)
+  pub more-rich-rows : (id : ℕ) (facts : Facts) (alignments : List Alignment) (cells ts : Simples) (r : List Inlines)
       (rs : List (List Inlines)) → AreRichCells is_rich n false alignments r cells
       → AreRichRows is_rich n alignments rs ts
       → AreRichRows is_rich n alignments (r ∷ rs)
-      (more (made id role.Row [] (more line_tree cells)) (more line_tree ts))
+      (more (element id role.Row facts [] (more line_tree cells)) (more line_tree ts))
   unfolding node_of
-  more-rich-rows id alignments cells ts r rs own later = record {
-    alone = row-alone id cells ts own.alone later.alone;
+  more-rich-rows id facts alignments cells ts r rs own later = record {
+    alone = row-alone id facts cells ts own.alone later.alone;
     gives = λ part.
         ap (λ cs. elements.row (record { part = Some part; cells = cs })
         ∷ map (flow.piece_with_blocks false (here is_rich n)) (as_pieces (body_rows part ts))) own.gives

@@ -233,7 +233,7 @@ module _ (flat : Mode) (done : List Block) (put : Inlines → Inlines) (around :
   after xs inner k gap = in_line flat done (put xs) (map wrapper_of around ++ inner) k gap
 
   -- at the same place after a gap
-  hole-here : (xs : Inlines) (y : Inline) → behind (deep around 0) (put xs) around y ≡ put (joined xs y)
+  pub hole-here : (xs : Inlines) (y : Inline) → behind (deep around 0) (put xs) around y ≡ put (joined xs y)
   hole-here xs y = ap (λ all. behind (deep around 0) (put xs) all y) (sym (append-nil around)) ∙ hole 0 xs [] y
 
   gap-here : (xs : Inlines) (inner : List Wrapper) (k : Bool) (g : List ℕ) (c : Bool) (more : List Around)
@@ -305,7 +305,7 @@ module _ (flat : Mode) (done : List Block) (put : Inlines → Inlines) (around :
   -- ---- breaks
 
   -- after a break, with the line's end that a page has there or without it
-  abbrev gap_past : Bool → Gap
+  abbrev pub gap_past : Bool → Gap
   gap_past true = record { white = space ∷ []; has_break = true; is_code = false }
   gap_past false = record { white = []; has_break = true; is_code = true }
 

@@ -1,4 +1,5 @@
--- What is read with its lines as one sees them: it has the same trees, the same document, and no raw tags.
+-- What is read with its lines as one sees them: it has the same trees, the same document, and no raw tags but those of
+-- anchors.
 use Rattle.std.proofs.Common.{◌≡◌, ℕ, Bool, true, false, ◌&&◌, List, [], ◌∷◌, refl, ap, ◌∙◌}
 use Rattle.std.proofs.Common.{codes, drop, Some}
 use Rattle.std.specs.Prelude.{⊤}
@@ -179,13 +180,12 @@ cells-same name alignments (c ∷ cs) h p =
     ∙ ap (λ ts. element_before name pairs (inlines_trees c none) (line_end ts))
     (cells-same name (drop 1 alignments) cs h.1 q.1)
 
-cells-again : (cs : List Inlines) → CellsLeft cs → cells_have_pairs_alone cs ≡ true
+cells-again : (cs : List Inlines) → CellsLeft cs
     → (cells_have_no_raw (seen_row cs) ≡ true) × (seen_row (seen_row cs) ≡ seen_row cs)
-cells-again [] h p = (refl, refl)
-cells-again (c ∷ cs) h p =
-    let q = and_parts (has_pairs_alone c) (cells_have_pairs_alone cs) p in
-    let i = seen-again c q.0 h.0 in
-    let j = cells-again cs h.1 q.1 in (
+cells-again [] h = (refl, refl)
+cells-again (c ∷ cs) h =
+    let i = seen-again c h.0 in
+    let j = cells-again cs h.1 in (
       and_from (has_no_raw (seen_inlines c)) (cells_have_no_raw (seen_row cs)) i.0 j.0,
       ap (λ x. x ∷ seen_row (seen_row cs)) i.1 ∙ ap (λ xs. seen_inlines c ∷ xs) j.1,
     )
@@ -205,13 +205,12 @@ body-same alignments [] h p = refl
 body-same alignments (r ∷ rs) h p =
     ap (λ ts. lines_before (codes "tbody") [] ts none) (rows-same alignments (r ∷ rs) h p)
 
-rows-again : (rs : List (List Inlines)) → RowsLeft rs → rows_have_pairs_alone rs ≡ true
+rows-again : (rs : List (List Inlines)) → RowsLeft rs
     → (rows_have_no_raw (line_rows rs) ≡ true) × (seen_rows (line_rows rs) ≡ seen_rows rs)
-rows-again [] h p = (refl, refl)
-rows-again (r ∷ rs) h p =
-    let q = and_parts (cells_have_pairs_alone r) (rows_have_pairs_alone rs) p in
-    let i = cells-again r h.0 q.0 in
-    let j = rows-again rs h.1 q.1 in (
+rows-again [] h = (refl, refl)
+rows-again (r ∷ rs) h =
+    let i = cells-again r h.0 in
+    let j = rows-again rs h.1 in (
       and_from (cells_have_no_raw (seen_row r)) (rows_have_no_raw (line_rows rs)) i.0 j.0,
       ap (λ x. without_empty_end x ∷ seen_rows (line_rows rs)) i.1
           ∙ ap (λ xs. without_empty_end (seen_row r) ∷ xs) j.1,
@@ -300,46 +299,43 @@ mutual
       (items-same is_tight rest h.1 q.1)
 
 mutual
-  block-again : (b : Block) → BlockLeft b → block_has_pairs_alone b ≡ true
+  block-again : (b : Block) → BlockLeft b
       → (block_has_no_raw (line_block b) ≡ true) × (seen_block (line_block b) ≡ seen_block b)
-  block-again (paragraph xs) h p = let i = seen-again xs p h in (i.0, ap paragraph i.1)
-  block-again (heading level xs) h p = let i = seen-again xs p h in (i.0, ap (heading level) i.1)
-  block-again (code_block language s) h p = (refl, refl)
-  block-again (quote bs) h p = let i = blocks-again bs h p in (i.0, ap quote i.1)
-  block-again thematic_break h p = (refl, refl)
-  block-again (list start tight items) h p = let i = items-again items h p in (i.0, ap (list start tight) i.1)
-  block-again (table alignments header rows) h p =
-      let q = and_parts (cells_have_pairs_alone header) (rows_have_pairs_alone rows) p in
-      let i = cells-again header h.0 q.0 in
-      let j = rows-again rows h.1 q.1 in (
+  block-again (paragraph xs) h = let i = seen-again xs h in (i.0, ap paragraph i.1)
+  block-again (heading level xs) h = let i = seen-again xs h in (i.0, ap (heading level) i.1)
+  block-again (code_block language s) h = (refl, refl)
+  block-again (quote bs) h = let i = blocks-again bs h in (i.0, ap quote i.1)
+  block-again thematic_break h = (refl, refl)
+  block-again (list start tight items) h = let i = items-again items h in (i.0, ap (list start tight) i.1)
+  block-again (table alignments header rows) h =
+      let i = cells-again header h.0 in
+      let j = rows-again rows h.1 in (
         and_from (cells_have_no_raw (seen_row header)) (rows_have_no_raw (line_rows rows)) i.0 j.0,
         ap (λ x. table alignments x (seen_rows (line_rows rows))) i.1 ∙ ap (table alignments (seen_row header)) j.1,
       )
-  block-again (html_block s) h p = (refl, refl)
+  block-again (html_block s) h = (refl, refl)
 
-  blocks-again : (bs : Blocks) → BlocksLeft bs → blocks_have_pairs_alone bs ≡ true
+  blocks-again : (bs : Blocks) → BlocksLeft bs
       → (blocks_have_no_raw (line_blocks bs) ≡ true) × (seen_blocks (line_blocks bs) ≡ seen_blocks bs)
-  blocks-again no_blocks h p = (refl, refl)
-  blocks-again (block b bs) h p =
-      let q = and_parts (block_has_pairs_alone b) (blocks_have_pairs_alone bs) p in
-      let i = block-again b h.0 q.0 in
-      let j = blocks-again bs h.1 q.1 in (
+  blocks-again no_blocks h = (refl, refl)
+  blocks-again (block b bs) h =
+      let i = block-again b h.0 in
+      let j = blocks-again bs h.1 in (
         and_from (block_has_no_raw (line_block b)) (blocks_have_no_raw (line_blocks bs)) i.0 j.0,
         ap (λ x. block x (seen_blocks (line_blocks bs))) i.1 ∙ ap (block (seen_block b)) j.1,
       )
 
-  items-again : (items : Items) → ItemsLeft items → items_have_pairs_alone items ≡ true
+  items-again : (items : Items) → ItemsLeft items
       → (items_have_no_raw (line_items items) ≡ true) × (seen_items (line_items items) ≡ seen_items items)
-  items-again no_items h p = (refl, refl)
-  items-again (item bs rest) h p =
-      let q = and_parts (blocks_have_pairs_alone bs) (items_have_pairs_alone rest) p in
-      let i = blocks-again bs h.0 q.0 in
-      let j = items-again rest h.1 q.1 in (
+  items-again no_items h = (refl, refl)
+  items-again (item bs rest) h =
+      let i = blocks-again bs h.0 in
+      let j = items-again rest h.1 in (
         and_from (blocks_have_no_raw (line_blocks bs)) (items_have_no_raw (line_items rest)) i.0 j.0,
         ap (λ x. item x (seen_items (line_items rest))) i.1 ∙ ap (item (seen_blocks bs)) j.1,
       )
 
--- the trees are the same, the document too, and no raw tag is there
+-- the trees are the same, the document too, and no raw tag is there but those of anchors
 pub record IsWithoutRaw (bs : Blocks) (d : document.Blocks) : Type 0 where
   pub trees : spelled_of (line_blocks bs) ≡ spelled_of bs
   pub seen : document_blocks (seen_blocks (line_blocks bs)) ≡ Some d
@@ -349,7 +345,7 @@ pub without-raw : (bs : Blocks) (d : document.Blocks) → document_blocks (seen_
     → blocks_have_pairs_alone bs ≡ true → IsWithoutRaw bs d
 without-raw bs d e p =
     let h = blocks-left bs d e in
-    let i = blocks-again bs h p in
+    let i = blocks-again bs h in
     record {
       trees = ap (λ o. o.first) (open-same false false bs h p);
       seen = ap document_blocks i.1 ∙ e;

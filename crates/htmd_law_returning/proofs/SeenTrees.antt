@@ -1,7 +1,7 @@
 -- The trees of a line are those of what is seen of it: along the stack of tags that are open.
-use Rattle.std.proofs.Common.{◌≡◌, ℕ, Bool, true, false, List, [], ◌∷◌, refl, sym, ap, ◌∙◌, codes}
-use Rattle.std.proofs.Common.{Option}
-use Rattle.std.proofs.Common.{Some, None, subst, arith}
+use Rattle.std.proofs.Common.{◌≡◌, ℕ, Bool, true, false, ◌||◌, List, [], ◌∷◌, refl, sym, ap}
+use Rattle.std.proofs.Common.{◌∙◌}
+use Rattle.std.proofs.Common.{codes, Option, Some, None, subst, arith}
 use Rattle.std.specs.List.{list_all}
 use Rattle.std.specs.Prelude.{⊤}
 use Rattle.std.specs.Str.{bytes_eq}
@@ -28,8 +28,8 @@ use Rattle.htmd_law_rendering.proofs.PairedLemmas.{is_anchor, is_end, pending, l
 use Rattle.htmd_law_rendering.proofs.PairedLemmas.{AreFormats, Goes, Ends, joined-nil, stray, seen-formats, seen-left}
 use Rattle.htmd_law_rendering.proofs.PairedLemmas.{before, lost, closed-formats, pair-none, opening-is, anchor-stays}
 use Rattle.htmd_law_rendering.proofs.PairedLemmas.{end-stays, tag-of-anchor, tag-of-end, tag-of-role, closes-so, pairs}
-use Rattle.htmd_law_returning.proofs.RawReadings.{has_no_raw}
-use Rattle.htmd_law_returning.proofs.PairReadings.{is_of_pair, has_pairs_alone}
+use Rattle.htmd_law_inlines.specs.PlainReadings.{is_untagged}
+use Rattle.htmd_law_returning.proofs.PairReadings.{is_of_pair, is_of_anchor, has_pairs_alone}
 use Rattle.htmd_law_returning.proofs.TreesLemmas.{description-seen}
 
 -- ---- inlines before what is open
@@ -117,7 +117,7 @@ first-anchor s xs h =
     (λ e. let w = rw (a, e) at h in absurd (omega (arith, w)))
     (λ e. let w = rw (a, e) at h in absurd (omega (arith, w))))
 
-then-end : (s : List ℕ) (xs : Inlines) → left true (raw s xs) ≡ 0
+pub then-end : (s : List ℕ) (xs : Inlines) → left true (raw s xs) ≡ 0
     → (is_anchor s ≡ false) × (is_end s ≡ true) × (left false xs ≡ 0)
 then-end s xs h =
     test (is_anchor s)
@@ -259,6 +259,9 @@ seen-open : (b : Tags) (x : Inlines) → AreOpen b → AreOpen (with_seen b x)
 seen-open (outside items) x h = tt
 seen-open (inside t items below) x h = h
 
+pub no-anchor : (s : List ℕ) → is_anchor s ≡ false → is_end s ≡ false → is_of_anchor s ≡ false
+no-anchor s a e = rw (a, e) refl
+
 abbrev IsSeen : SpelledForest → Tags → Inlines → Type 0
 IsSeen rest b xs =
     open_onto (all_seen (seen b xs) no_inlines) (at rest []) ≡ stack_onto b (open_onto xs (at rest []))
@@ -332,14 +335,22 @@ module _ (s : List ℕ) (xs : Inlines) (rest : SpelledForest)
   of_role b breaks f n a e p r h = absurd (cc)
   of_role b stays f n a e p r h = absurd (cc)
 
-  of_tag : (b : Tags) → AreFormats b → AreOpen b → is_of_pair (role s) ≡ true
+  of_staying : (b : Tags) (r : Role) → AreFormats b → AreOpen b → r ≡ stays → Ends (markup.with_raw b s r) xs
+      → IsSeenSo b r
+  of_staying b r f n e h =
+      let x = raw s no_inlines in
+      subst (IsSeenSo b) (sym e)
+      (ih (with_seen b x) (seen-formats b x f) (seen-open b x n) (subst (λ r. Ends (markup.with_raw b s r) xs) e h)
+      ∙ seen-onto b x (open_onto xs (at rest [])))
+
+  of_tag : (b : Tags) → AreFormats b → AreOpen b → (is_of_anchor s || is_of_pair (role s)) ≡ true
       → Ends (markup.with_raw b s (role s)) xs → IsSeenSo b (role s)
   of_tag b f n p h =
       test (is_anchor s)
-      (λ a. let w : false ≡ true = ap is_of_pair (sym (anchor-stays s a)) ∙ p in absurd (cc))
+      (λ a. of_staying b (role s) f n (anchor-stays s a) h)
       (λ a. test (is_end s)
-      (λ e. let w : false ≡ true = ap is_of_pair (sym (end-stays s e)) ∙ p in absurd (cc))
-      (λ e. of_role b (role s) f n a e p refl h))
+      (λ e. of_staying b (role s) f n (end-stays s e) h)
+      (λ e. of_role b (role s) f n a e (sym (ap (λ c. c || is_of_pair (role s)) (no-anchor s a e)) ∙ p) refl h))
 
 trees : (xs : Inlines) (rest : SpelledForest) (b : Tags) → AreFormats b → AreOpen b → has_pairs_alone xs ≡ true
     → Ends b xs → IsSeen rest b xs
@@ -377,7 +388,7 @@ trees (link a t content xs) rest b f n p h =
 trees (image a t content xs) rest b f n p h =
     let x = image a t (letters (plain_text (all_seen (seen (outside no_inlines) content) no_inlines)) no_inlines)
     no_inlines in
-    let q = and_parts (has_no_raw content) (has_pairs_alone xs) p in
+    let q = and_parts (is_untagged content) (has_pairs_alone xs) p in
     let o = open_onto xs (at rest []) in
     trees xs rest (with_seen b x) (seen-formats b x f) (seen-open b x n) q.1 h
     ∙ (seen-onto b x o
@@ -392,7 +403,7 @@ trees (task d xs) rest b f n p h =
     trees xs rest (with_seen b x) (seen-formats b x f)
     (seen-open b x n) p h ∙ seen-onto b x (open_onto xs (at rest []))
 trees (raw s xs) rest b f n p h =
-    let q = and_parts (is_of_pair (role s)) (has_pairs_alone xs) p in
+    let q = and_parts (is_of_anchor s || is_of_pair (role s)) (has_pairs_alone xs) p in
     of_tag s xs rest (λ c g m e. trees xs rest c g m q.1 e) b f n q.0 h
 
 pub seen-trees : (xs : Inlines) (rest : SpelledForest) → has_pairs_alone xs ≡ true → total (seen_inlines xs) ≡ 0

@@ -1,7 +1,8 @@
 -- What is read with each tag of a break as a break: it is seen alike, and its trees stand for those that it then has.
-use Rattle.std.proofs.Common.{◌≡◌, ℕ, Bool, true, false, List, [], ◌∷◌, refl, sym, ap, ◌∙◌, subst, codes, drop, inr}
+use Rattle.std.proofs.Common.{◌≡◌, ℕ, Bool, true, false, List, [], ◌∷◌, refl, sym, ap, ◌∙◌, subst}
+use Rattle.std.proofs.Common.{codes, drop, inr}
 use Rattle.std.proofs.Common.{cond}
-use Rattle.std.specs.Prelude.{⊤}
+use Rattle.std.specs.Prelude.{⊤, ◌&&◌}
 use Rattle.std.specs.Str.{bytes_eq}
 use Rattle.std.proofs.lemmas.Bool.{and_parts, and_from}
 use Rattle.htmd_lexical.proofs.BytesLemmas.{same_bytes}
@@ -35,6 +36,7 @@ use Rattle.htmd_law_rendering.specs.RenderedTrees.{heading_name, code_block_tree
 use Rattle.htmd_law_rendering.specs.RenderedTrees.{paragraph_trees, begun_line, block_trees, blocks_trees, items_trees}
 use Rattle.htmd_law_rendering.specs.RenderedTrees.{trees_of, blocks_open, pairs_of_element, section_name}
 use Rattle.htmd_law_rendering.specs.RenderedTrees.{left_of_section, bounds_section, outside_section, ends_of}
+use Rattle.htmd_law_rendering.specs.RenderedTrees.{is_caption, in_table, before_caption}
 use Rattle.htmd_law_rendering.specs.SpelledTrees.{SpelledForest, none, more, text, element, lone, section}
 use Rattle.htmd_law_rendering.specs.SpelledTrees.{spaced, short, value_forest, lone_text}
 use Rattle.htmd_law_returning.proofs.StandLemmas.{Stands, stands-same, begins_filled, end-lacks, text-filled}
@@ -394,13 +396,27 @@ ends-open n o p h =
 end-open : (o p : Open) → AreOpen o p → AreOpen (trees.onto line_end o) (trees.onto line_end p)
 end-open o p h = text-open (line_feed ∷ []) o p h
 
+behind-table : (bs cs : List Behind) → AreBehind bs cs → in_table bs ≡ in_table cs
+behind-table [] [] k = refl
+behind-table (b ∷ bs) (c ∷ cs) k = ap is_table k.0
+behind-table [] (c ∷ cs) k = absurd k
+behind-table (b ∷ bs) [] k = absurd k
+
+-- left of a caption a section again
+before-open : (n : List ℕ) (o p : Open) → AreOpen o p → AreOpen (before_caption n o) (before_caption n p)
+before-open n o p h =
+    let same = ap (λ b. is_caption n && b) (behind-table o.behind p.behind h.behind) in
+    test (is_caption n && in_table o.behind) (λ t. rw (t, sym same ∙ t) (tag-open (closing section_name) o p h))
+    (λ t. rw (t, sym same ∙ t) h)
+
 tags-open : (line : Line) (o p : Open) → AreOpen o p → AreOpen (trees.with_line line o) (trees.with_line line p)
 tags-open (lines.opening name attributes) o p h =
     let n = element_name name in
     let us = outside_section n o in
     let ts = outside_section n p in
-    tag-open (opening n (pairs_of_element attributes)) (trees.onto line_end us) (trees.onto line_end ts)
-    (end-open us ts (outside-open n o p h))
+    let tag = opening n (pairs_of_element attributes) in
+    before-open n (trees.with_raw tag (trees.onto line_end us)) (trees.with_raw tag (trees.onto line_end ts))
+    (tag-open tag (trees.onto line_end us) (trees.onto line_end ts) (end-open us ts (outside-open n o p h)))
 tags-open (lines.closing name) o p h =
     let n = element_name name in
     let us = outside_section n o in
@@ -413,7 +429,8 @@ tags-open (lines.whole name attributes s) o p h =
     let there = outside-open n o p h in
     let rest = end-open us ts there in
     let vs = value_forest (line_end us.first) in
-    record {
+    let alone = λ (ws : SpelledForest). more (lone n (pairs_of_element attributes) s) (line_end ws) in
+    before-open n (trees.onto alone us) (trees.onto alone ts) (record {
       first = (
         lone_text s,
         vs,
@@ -423,7 +440,7 @@ tags-open (lines.whole name attributes s) o p h =
       );
       filled = refl;
       behind = there.behind;
-    }
+    })
 tags-open lines.unknown o p h = h
 
 lines-open : (ss : List (List ℕ)) (o p : Open) → AreOpen o p

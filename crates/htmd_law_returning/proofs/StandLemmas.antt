@@ -1,5 +1,6 @@
 -- Trees that stand for others: the same, but that behind a break the line's end may be missing.
-use Rattle.std.proofs.Common.{◌≡◌, ℕ, Bool, true, false, List, [], ◌∷◌, ◌++◌, refl, ap, ◌∙◌, codes, ◌⊎◌, inl}
+use Rattle.std.proofs.Common.{◌≡◌, ℕ, Bool, true, false, List, [], ◌∷◌, ◌++◌, refl, ap, ◌∙◌}
+use Rattle.std.proofs.Common.{codes, ◌⊎◌, inl}
 use Rattle.std.specs.Str.{bytes_eq}
 use Rattle.htmd_lexical.specs.AttributePairs.{AttributePair}
 use Rattle.htmd_values.specs.ValueTrees as value

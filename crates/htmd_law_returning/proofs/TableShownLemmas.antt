@@ -1,5 +1,6 @@
 -- What shows of a table whose rows hold settled lines, and that this gives the table.
-use Rattle.std.proofs.Common.{◌≡◌, ℕ, suc, ◌+◌, ◌==◌, Bool, true, false, ◌&&◌, ◌||◌, List, [], ◌∷◌, drop, map}
+use Rattle.std.proofs.Common.{◌≡◌, ℕ, suc, ◌+◌, ◌==◌, Bool, true, false, ◌&&◌, ◌||◌, List, []}
+use Rattle.std.proofs.Common.{◌∷◌, drop, map}
 use Rattle.std.proofs.Common.{refl, sym, ap, ◌∙◌, subst, codes, length, not, Option, Some, None}
 use Rattle.std.proofs.Common.{◌<◌}
 use Rattle.std.specs.List.{list_all}
@@ -33,7 +34,8 @@ use Rattle.htmd_law_returning.specs.SettledDocuments.{is_settled_line, is_settle
 use Rattle.htmd_law_returning.specs.SettledDocuments.{shows_header}
 use Rattle.htmd_law_returning.specs.SettledDocuments.{weight_among, weight_of_cells, weight_of_rows}
 use Rattle.htmd_law_returning.proofs.BlockTrees.{spelled_cells, spelled_rows, spelled_body, spelled_table}
-use Rattle.htmd_law_returning.proofs.FlowLemmas.{GivesBlock, parts_of}
+use Rattle.htmd_law_returning.proofs.ReadyLemmas.{parts_of}
+use Rattle.htmd_law_returning.proofs.FlowLemmas.{GivesBlock}
 use Rattle.htmd_law_returning.proofs.GridLemmas.{cut_row, whole-row}
 use Rattle.htmd_law_returning.proofs.HeldLemmas.{are_black_ended, are_held, line-held}
 use Rattle.htmd_law_returning.proofs.InlineLemmas.{free-none, left-light, right-light}
@@ -49,10 +51,14 @@ use Rattle.htmd_law_returning.proofs.LineFactLemmas.{line-seen}
 use Rattle.htmd_law_returning.proofs.RichCellLemmas.{cell_role, cell-blocks}
 use Rattle.htmd_law_returning.proofs.RichTableLemmas.{are_narrow}
 use Rattle.htmd_law_returning.proofs.StartLemmas.{from-not}
-use Rattle.htmd_law_returning.proofs.TableLemmas.{cell-line, lined, AreCells, none-cells, more-cells}
-use Rattle.htmd_law_returning.proofs.TableLemmas.{row_tree, AreRows, none-rows, more-rows, head_in}
+use Rattle.htmd_law_returning.proofs.LocalTables.{lined, row_tree}
+use Rattle.htmd_law_returning.proofs.TableCells.{cell-line, AreCells, none-cells, more-cells, AreRows, none-rows}
+use Rattle.htmd_law_returning.proofs.TableCells.{more-rows}
+use Rattle.htmd_law_returning.proofs.TableLemmas.{head_in}
 use Rattle.htmd_law_returning.proofs.TableLemmas.{alone-gives, body-gives, cut-weights}
 use Rattle.htmd_law_returning.proofs.TreesLemmas.{line_trees}
+use Rattle.htmd_law_returning.specs.LastingAnchors.{line_keeps}
+use Rattle.htmd_law_returning.proofs.LocalAnchors.{local_all}
 
 abbrev cell_name : Bool → List ℕ
 cell_name true = codes "th"
@@ -123,7 +129,7 @@ module _ (scripting is_rich : Bool) where
       (shown_of scripting is_rich (Some (pairs_of_alignment align.Right)) f))
       (plain-content id (shown_of scripting is_rich None inside)))
 
-  row-shown : (before : Option (List AttributePair)) (id : ℕ) (inside f : NumberedForest) → IsFresh before
+  pub row-shown : (before : Option (List AttributePair)) (id : ℕ) (inside f : NumberedForest) → IsFresh before
       → has_number_cell inside ≡ false
       → shown_of scripting is_rich before (page.more (page.element id (codes "tr") [] inside) f)
       ≡ more (made id role.Row [] (shown_of scripting is_rich None inside)) (shown_of scripting is_rich (Some []) f)
@@ -141,7 +147,7 @@ module _ (scripting is_rich : Bool) where
       rw h (ap (λ ts. more (made id role.TableHead [] ts) (shown_of scripting is_rich (Some []) f))
       (plain-content id (shown_of scripting is_rich None inside)))
 
-  body-shown : (before : Option (List AttributePair)) (id : ℕ) (inside f : NumberedForest) → IsFresh before
+  pub body-shown : (before : Option (List AttributePair)) (id : ℕ) (inside f : NumberedForest) → IsFresh before
       → shown_of scripting is_rich before (page.more (page.element id (codes "tbody") [] inside) f)
       ≡ more (made id role.TableBody [] (shown_of scripting is_rich None inside))
       (shown_of scripting is_rich (Some []) f)
@@ -170,13 +176,16 @@ all-cells p empty (r ∷ rs) h =
     and_from (list_all p r) (list_all (list_all p) rs) (whole-row p empty r parts.0) (all-cells p empty rs parts.1)
 
 normal-cells : (k : ℕ) (rows : List (List Inlines)) → list_all (is_normal_row k) rows ≡ true
-    → list_all (list_all is_normal_line) rows ≡ true
-normal-cells k [] h = refl
+    → (list_all (list_all is_normal_line) rows ≡ true) × (list_all (list_all anchors_stand_well) rows ≡ true)
+normal-cells k [] h = (refl, refl)
 normal-cells k (r ∷ rs) h =
     let parts = and_parts (is_normal_row k r) (list_all (is_normal_row k) rs) h in
-    let cells = (and_parts _ (are_normal_cells r) parts.0).1 in
-    and_from (list_all is_normal_line r) (list_all (list_all is_normal_line) rs)
-    (and_parts (list_all is_normal_line r) (list_all anchors_stand_well r) cells).0 (normal-cells k rs parts.1)
+    let cells = and_parts (list_all is_normal_line r) (list_all anchors_stand_well r)
+    (and_parts _ (are_normal_cells r) parts.0).1 in
+    let rest = normal-cells k rs parts.1 in (
+      and_from (list_all is_normal_line r) (list_all (list_all is_normal_line) rs) cells.0 rest.0,
+      and_from (list_all anchors_stand_well r) (list_all (list_all anchors_stand_well) rs) cells.1 rest.1,
+    )
 
 -- ---- from the trees of a table
 
@@ -190,11 +199,12 @@ module _ (scripting is_rich : Bool) (n : ℕ) (alignments : List Alignment) wher
   cells-shown : (is_header : Bool) (columns : List Alignment) (cells : List Inlines)
       (before : Option (List AttributePair)) (f : NumberedForest) (k : ℕ)
       → Stands (value_forest f) (forest_of (spelled_cells (cell_name is_header) columns cells))
-      → list_all is_settled_line cells ≡ true → list_all (line_shows is_rich) cells ≡ true
-      → list_all is_normal_line cells ≡ true
-      → weight_of_cells cells < greatest_count → is_ordered k f ≡ true
+      → list_all is_settled_line cells ≡ true → list_all line_keeps cells ≡ true
+      → list_all (line_shows is_rich) cells ≡ true → list_all is_normal_line cells ≡ true
+      → list_all anchors_stand_well cells ≡ true → weight_of_cells cells < greatest_count
+      → is_ordered k f ≡ true
       → HasCells is_header columns cells before f
-  cells-shown is_header columns [] before f k e settled formats normal light o =
+  cells-shown is_header columns [] before f k e settled free formats normal stand light o =
       let is = from-none f e in
       record {
         unnumbered = ap has_number_cell is;
@@ -202,12 +212,14 @@ module _ (scripting is_rich : Bool) (n : ℕ) (alignments : List Alignment) wher
             (sym (ap (shown_of scripting is_rich before) is ∙ none-shown scripting is_rich before))
             (none-cells is_rich n is_header columns);
       }
-  cells-shown is_header columns (c ∷ cs) before f k e settled formats normal light o =
+  cells-shown is_header columns (c ∷ cs) before f k e settled free formats normal stand light o =
       let good = and_parts (is_settled_line c) (list_all is_settled_line cs) settled in
       let form = and_parts (is_normal_line c) (list_all is_normal_line cs) normal in
       let shown_formats = and_parts (line_shows is_rich c) (list_all (line_shows is_rich) cs) formats in
-      let held = and_parts (are_black_ended c) (are_held c) (line-held c good.0) in
       let line = and_parts (are_whole c) (are_normal false [] c) form.0 in
+      let keeps = and_parts (line_keeps c) (list_all line_keeps cs) free in
+      let well = and_parts (anchors_stand_well c) (list_all anchors_stand_well cs) stand in
+      let held = and_parts (are_black_ended c) (are_held c) (line-held c line.1 good.0 well.0 keeps.0) in
       let a : Alignment = first_alignment columns in
       let pairs : List AttributePair = pairs_of_alignment a in
       let name : List ℕ = cell_name is_header in
@@ -218,8 +230,9 @@ module _ (scripting is_rich : Bool) (n : ℕ) (alignments : List Alignment) wher
       fresh-first own.within line.1 held.1 shown_formats.0
       (left-light (weight_among c) (weight_of_cells cs) light) order.0 in
       let rest = cells-shown is_header (drop 1 columns) cs (Some pairs) own.rest (suc own.line) own.others good.1
-      shown_formats.1 form.1 (right-light (weight_among c) (weight_of_cells cs) light) order.1 in
+      keeps.1 shown_formats.1 form.1 well.1 (right-light (weight_among c) (weight_of_cells cs) light) order.1 in
       let content : Simples = shown_of scripting is_rich None own.inside in
+      let inside : Simples = local_all [] content in
       let behind : NumberedForest = page.more (page.text own.line (line_feed ∷ [])) own.rest in
       let ts : Simples = shown_of scripting is_rich (Some pairs) own.rest in
       record {
@@ -232,13 +245,16 @@ module _ (scripting is_rich : Bool) (n : ℕ) (alignments : List Alignment) wher
             ∙ (cell-shown scripting is_rich before own.id is_header a own.inside behind
             ∙ ap (more (made own.id (cell_role is_header) pairs content))
             (line-shown scripting is_rich (Some pairs) own.line own.rest))))
-            (more-cells is_rich n own.id is_header columns content ts c cs shows.bare shows.spent
+            (more-cells is_rich n own.id is_header columns content ts c cs shows.sound shows.bare shows.waits
+            shows.spent
             shows.plain.tableless shows.plain.preless
             (λ some. shows.plain.shows (line-seen c false [] (whole-inlines c (from-not (has_none c) some) held.0)
             line.1 held.1))
-            (cell-line (flow_all (nodes_of content) (place true is_rich n [])) shows.numbers c (shows.gives true n)
+            (cell-line (flow_all (nodes_of inside) (place true is_rich n [])) shows.numbers c
+            (λ w. shows.gives true n w)
             (λ some. whole-inlines c some held.0) line.1 held.1 shows.rising)
-            (cell-blocks (parts_of is_rich n content) shows.numbers c (shows.gives false n)
+            (cell-blocks (parts_of is_rich n inside) shows.numbers c
+            (λ w. shows.gives false n w)
             (λ some. whole-inlines c some held.0) line.1 held.1 shows.rising) rest.gives);
       }
 
@@ -251,15 +267,17 @@ module _ (scripting is_rich : Bool) (n : ℕ) (alignments : List Alignment) wher
 
   row-inside : (is_header : Bool) (cells : List Inlines) (inside : NumberedForest)
       → Stands (value_forest inside) (line_before (forest_of (spelled_cells (cell_name is_header) alignments cells)))
-      → list_all is_settled_line cells ≡ true → list_all (line_shows is_rich) cells ≡ true
-      → list_all is_normal_line cells ≡ true
-      → weight_of_cells cells < greatest_count → is_ordered 0 inside ≡ true → HasRow is_header cells inside
-  row-inside is_header cells inside e settled formats normal light o =
+      → list_all is_settled_line cells ≡ true → list_all line_keeps cells ≡ true
+      → list_all (line_shows is_rich) cells ≡ true → list_all is_normal_line cells ≡ true
+      → list_all anchors_stand_well cells ≡ true → weight_of_cells cells < greatest_count
+      → is_ordered 0 inside ≡ true
+      → HasRow is_header cells inside
+  row-inside is_header cells inside e settled free formats normal stand light o =
       let inner = from-text inside (line_feed ∷ []) (forest_of (spelled_cells (cell_name is_header) alignments cells))
       e in
       let order = ordered-next 0 inside (page.text inner.id (line_feed ∷ [])) inner.rest inner.is o in
-      let own = cells-shown is_header alignments cells None inner.rest (suc inner.id) inner.others settled formats
-      normal light order.rest in
+      let own = cells-shown is_header alignments cells None inner.rest (suc inner.id) inner.others settled free
+      formats normal stand light order.rest in
       record {
         content = shown_of scripting is_rich None inner.rest;
         is = ap (shown_of scripting is_rich None) inner.is
@@ -276,10 +294,11 @@ module _ (scripting is_rich : Bool) (n : ℕ) (alignments : List Alignment) wher
 
   rows-shown : (rows : List (List Inlines)) (before : Option (List AttributePair)) (f : NumberedForest) (k : ℕ)
       → IsFresh before → Stands (value_forest f) (forest_of (spelled_rows alignments rows))
-      → list_all (list_all is_settled_line) rows ≡ true → list_all (list_all (line_shows is_rich)) rows ≡ true
-      → list_all (list_all is_normal_line) rows ≡ true
+      → list_all (list_all is_settled_line) rows ≡ true → list_all (list_all line_keeps) rows ≡ true
+      → list_all (list_all (line_shows is_rich)) rows ≡ true
+      → list_all (list_all is_normal_line) rows ≡ true → list_all (list_all anchors_stand_well) rows ≡ true
       → weight_of_rows rows < greatest_count → is_ordered k f ≡ true → HasRows rows before f
-  rows-shown [] before f k fresh e settled formats normal light o =
+  rows-shown [] before f k fresh e settled free formats normal stand light o =
       let is = from-none f e in
       record {
         unnumbered = ap has_numbered is;
@@ -287,18 +306,20 @@ module _ (scripting is_rich : Bool) (n : ℕ) (alignments : List Alignment) wher
             (sym (ap (shown_of scripting is_rich before) is ∙ none-shown scripting is_rich before))
             (none-rows is_rich n alignments);
       }
-  rows-shown (r ∷ rs) before f k fresh e settled formats normal light o =
+  rows-shown (r ∷ rs) before f k fresh e settled free formats normal stand light o =
       let good = and_parts (list_all is_settled_line r) (list_all (list_all is_settled_line) rs) settled in
       let form = and_parts (list_all is_normal_line r) (list_all (list_all is_normal_line) rs) normal in
       let shown_formats = and_parts (list_all (line_shows is_rich) r) (list_all (list_all (line_shows is_rich)) rs)
       formats in
+      let keeps = and_parts (list_all line_keeps r) (list_all (list_all line_keeps) rs) free in
+      let well = and_parts (list_all anchors_stand_well r) (list_all (list_all anchors_stand_well) rs) stand in
       let own = from-block f (codes "tr") [] (line_before (forest_of (spelled_cells (codes "td") alignments r)))
       (forest_of (spelled_rows alignments rs)) e refl in
       let order = block-order k f own.id (codes "tr") [] own.inside own.line own.rest own.is o in
-      let row = row-inside false r own.inside own.within good.0 shown_formats.0 form.0
+      let row = row-inside false r own.inside own.within good.0 keeps.0 shown_formats.0 form.0 well.0
       (left-light (weight_of_cells r) (weight_of_rows rs) light) order.0 in
       let rest = rows-shown rs (Some []) own.rest (suc own.line) (fresh-next []) own.others good.1
-      shown_formats.1 form.1
+      keeps.1 shown_formats.1 form.1 well.1
       (right-light (weight_of_cells r) (weight_of_rows rs) light) order.1 in
       let behind : NumberedForest = page.more (page.text own.line (line_feed ∷ [])) own.rest in
       let ts : Simples = shown_of scripting is_rich (Some []) own.rest in
@@ -334,10 +355,11 @@ module _ (scripting is_rich : Bool) (n : ℕ) (alignments : List Alignment) wher
 
   head-inside : (header : List Inlines) (rows : List (List Inlines)) (inside : NumberedForest)
       → Stands (value_forest inside) (line_before (forest_of (spelled_table alignments header rows)))
-      → list_all is_settled_line header ≡ true → list_all (line_shows is_rich) header ≡ true
-      → list_all is_normal_line header ≡ true
+      → list_all is_settled_line header ≡ true → list_all line_keeps header ≡ true
+      → list_all (line_shows is_rich) header ≡ true
+      → list_all is_normal_line header ≡ true → list_all anchors_stand_well header ≡ true
       → weight_of_cells header < greatest_count → is_ordered 0 inside ≡ true → HasHead header rows inside
-  head-inside header rows inside e settled formats normal light o =
+  head-inside header rows inside e settled free formats normal stand light o =
       let cells : ValueForest = forest_of (spelled_cells (codes "th") alignments header) in
       let line : ValueForest =
       value.more (value.element (codes "tr") [] (line_before cells)) (line_before value.none) in
@@ -352,7 +374,7 @@ module _ (scripting is_rich : Bool) (n : ℕ) (alignments : List Alignment) wher
       let row = from-block first.rest (codes "tr") [] (line_before cells) value.none first.others refl in
       let within = block-order (suc first.id) first.rest row.id (codes "tr") [] row.inside row.line row.rest row.is
       after.rest in
-      let own = row-inside true header row.inside row.within settled formats normal light within.0 in
+      let own = row-inside true header row.inside row.within settled free formats normal stand light within.0 in
       let none_left : row.rest ≡ page.none = from-none row.rest row.others in
       let past : NumberedForest = page.more (page.text row.line (line_feed ∷ [])) row.rest in
       let later : NumberedForest = page.more (page.text head.line (line_feed ∷ [])) head.rest in
@@ -406,17 +428,18 @@ module _ (scripting is_rich : Bool) (n : ℕ) (alignments : List Alignment) wher
       → IsFresh before
       → Stands (value_forest f) (value.more (value.element (codes "tbody") []
       (line_before (forest_of (spelled_rows alignments rows)))) (line_before value.none))
-      → list_all (list_all is_settled_line) rows ≡ true → list_all (list_all (line_shows is_rich)) rows ≡ true
-      → list_all (list_all is_normal_line) rows ≡ true
+      → list_all (list_all is_settled_line) rows ≡ true → list_all (list_all line_keeps) rows ≡ true
+      → list_all (list_all (line_shows is_rich)) rows ≡ true
+      → list_all (list_all is_normal_line) rows ≡ true → list_all (list_all anchors_stand_well) rows ≡ true
       → weight_of_rows rows < greatest_count → is_ordered k f ≡ true → HasBody rows before f
-  body-inside rows before f k fresh e settled formats normal light o =
+  body-inside rows before f k fresh e settled free formats normal stand light o =
       let body = from-block f (codes "tbody") [] (line_before (forest_of (spelled_rows alignments rows))) value.none e
       refl in
       let order = block-order k f body.id (codes "tbody") [] body.inside body.line body.rest body.is o in
       let first = from-text body.inside (line_feed ∷ []) (forest_of (spelled_rows alignments rows)) body.within in
       let after = ordered-next 0 body.inside (page.text first.id (line_feed ∷ [])) first.rest first.is order.0 in
-      let own = rows-shown rows None first.rest (suc first.id) fresh-first first.others settled formats normal
-      light after.rest in
+      let own = rows-shown rows None first.rest (suc first.id) fresh-first first.others settled free formats normal
+      stand light after.rest in
       let none_left : body.rest ≡ page.none = from-none body.rest body.others in
       let later : NumberedForest = page.more (page.text body.line (line_feed ∷ [])) body.rest in
       let content : Simples = shown_of scripting is_rich None first.rest in
@@ -456,18 +479,24 @@ module _ (scripting is_rich : Bool) (n : ℕ) (alignments : List Alignment) wher
     normal : list_all is_normal_line header ≡ true
     shows : list_all (line_shows is_rich) header ≡ true
     all_show : list_all (list_all (line_shows is_rich)) rows ≡ true
+    free : list_all line_keeps header ≡ true
+    all_free : list_all (list_all line_keeps) rows ≡ true
     all_settled : list_all (list_all is_settled_line) rows ≡ true
     all_normal : list_all (list_all is_normal_line) rows ≡ true
+    stands : list_all anchors_stand_well header ≡ true
+    all_stand : list_all (list_all anchors_stand_well) rows ≡ true
 
   is-table : (header : List Inlines) (rows : List (List Inlines))
       → is_settled_table header (map cut_row rows) ≡ true
+      → (list_all line_keeps header && list_all (list_all line_keeps) (map cut_row rows)) ≡ true
       → (list_all (line_shows is_rich) header && list_all (list_all (line_shows is_rich)) (map cut_row rows)) ≡ true
       → is_normal_table alignments header (map cut_row rows) ≡ true → IsTable header rows
-  is-table header rows settled formats normal =
+  is-table header rows settled unplaced formats normal =
       let lines : List (List Inlines) = map cut_row rows in
       let good = and_parts (list_all is_settled_line header && list_all (list_all is_settled_line) lines)
       (shows_last_column header lines) settled in
       let all = and_parts (list_all is_settled_line header) (list_all (list_all is_settled_line) lines) good.0 in
+      let free = and_parts (list_all line_keeps header) (list_all (list_all line_keeps) lines) unplaced in
       let form = and_parts
       ((has_cell header && (length alignments == length header)) && are_normal_cells header)
       (list_all (is_normal_row (length header)) lines) normal in
@@ -484,21 +513,26 @@ module _ (scripting is_rich : Bool) (n : ℕ) (alignments : List Alignment) wher
         normal = (and_parts (list_all is_normal_line header) (list_all anchors_stand_well header) own.1).0;
         shows = seen.0;
         all_show = all-cells (line_shows is_rich) refl rows seen.1;
+        free = free.0;
+        all_free = all-cells line_keeps refl rows free.1;
         all_settled = all-cells is_settled_line refl rows all.1;
-        all_normal = all-cells is_normal_line refl rows (normal-cells (length header) lines form.1);
+        all_normal = all-cells is_normal_line refl rows (normal-cells (length header) lines form.1).0;
+        stands = (and_parts (list_all is_normal_line header) (list_all anchors_stand_well header) own.1).1;
+        all_stand = all-cells anchors_stand_well refl rows (normal-cells (length header) lines form.1).1;
       }
 
   pub table-inside : (outer : ℕ) (header : List Inlines) (rows : List (List Inlines)) (inside : NumberedForest)
       → Stands (value_forest inside) (line_before (forest_of (spelled_table alignments header rows)))
       → is_settled_table header (map cut_row rows) ≡ true
+      → (list_all line_keeps header && list_all (list_all line_keeps) (map cut_row rows)) ≡ true
       → (list_all (line_shows is_rich) header && list_all (list_all (line_shows is_rich)) (map cut_row rows)) ≡ true
       → is_normal_table alignments header (map cut_row rows) ≡ true
       → weight_of_cells header + weight_of_rows (map cut_row rows) < greatest_count
       → (is_rich && not (shows_header header && are_narrow (length header) rows)) ≡ false
       → is_ordered 0 inside ≡ true → HasTable outer header rows inside
-  table-inside outer header [] inside e settled formats normal light plain o =
-      let own = is-table header [] settled formats normal in
-      let head = head-inside header [] inside e own.settled own.shows own.normal
+  table-inside outer header [] inside e settled free formats normal light plain o =
+      let own = is-table header [] settled free formats normal in
+      let head = head-inside header [] inside e own.settled own.free own.shows own.normal own.stands
       (left-light (weight_of_cells header) 0 light) o in
       let none_left : head.rest ≡ page.none = from-none head.rest head.others in
       record {
@@ -511,16 +545,16 @@ module _ (scripting is_rich : Bool) (n : ℕ) (alignments : List Alignment) wher
             (alone-gives is_rich n head.head head.id alignments header head.cells head.gives own.some outer plain
             own.count own.last);
       }
-  table-inside outer header (r ∷ rs) inside e settled formats normal light plain o =
+  table-inside outer header (r ∷ rs) inside e settled free formats normal light plain o =
       let rows : List (List Inlines) = r ∷ rs in
-      let own = is-table header rows settled formats normal in
-      let head = head-inside header rows inside e own.settled own.shows own.normal
+      let own = is-table header rows settled free formats normal in
+      let head = head-inside header rows inside e own.settled own.free own.shows own.normal own.stands
       (left-light (weight_of_cells header) (weight_of_rows (map cut_row rows)) light) o in
       let few : weight_of_rows rows < greatest_count =
       subst (λ (k : ℕ). k < greatest_count) (cut-weights rows)
       (right-light (weight_of_cells header) (weight_of_rows (map cut_row rows)) light) in
       let body = body-inside rows (Some []) head.rest head.least (fresh-next []) head.others own.all_settled
-      own.all_show own.all_normal few head.ordered in
+      own.all_free own.all_show own.all_normal own.all_stand few head.ordered in
       record {
         unnumbered = head.unnumbered ∙ body.unnumbered;
         gives = subst (λ (us : Simples). GivesBlock is_rich n (made outer role.Table [] us)

@@ -1,5 +1,6 @@
 -- The paragraphs of a document, which begin with a task in an item: what shows of one, and what that gives.
-use Rattle.std.proofs.Common.{◌≡◌, ℕ, suc, ◌<◌, Bool, true, false, not, ◌&&◌, ◌||◌, cond, List, [], ◌∷◌}
+use Rattle.std.proofs.Common.{◌≡◌, ℕ, suc, ◌<◌, Bool, true, false, not, ◌&&◌, ◌||◌, cond, List, []}
+use Rattle.std.proofs.Common.{◌∷◌}
 use Rattle.std.proofs.Common.{refl, sym, ap, ◌∙◌, codes, subst, Option, Some, None, ◌⊎◌, inl, inr, ⊎_elim}
 use Rattle.std.specs.List.{list_any}
 use Rattle.std.proofs.lemmas.Bool.{and_parts}
@@ -31,7 +32,7 @@ use Rattle.htmd_law_rendering.specs.SpelledTrees as spelled
 use Rattle.htmd_law_returning.specs.PageFormats.{line_shows}
 use Rattle.htmd_law_returning.specs.SettledDocuments.{is_settled_line, is_settled_paragraph, behind_box, weight_among}
 use Rattle.htmd_law_returning.specs.SettledDocuments.{said_among}
-use Rattle.htmd_law_returning.proofs.BareLemmas.{are_bare, has_no_name}
+use Rattle.htmd_law_returning.proofs.BareLemmas.{has_no_name}
 use Rattle.htmd_law_returning.proofs.BehindLineLemmas.{IsSteady, AreSteady, element_first, steady-line}
 use Rattle.htmd_law_returning.proofs.BoxLemmas.{IsTask, task-fed, task-line, held-spaced}
 use Rattle.htmd_law_returning.proofs.CostLemmas.{AllSpend, spend-element, spend-none, spend-more}
@@ -39,15 +40,23 @@ use Rattle.htmd_law_returning.proofs.FlowLemmas.{IsLineFed, line-fed}
 use Rattle.htmd_law_returning.proofs.HeldLemmas.{are_black_ended, are_held, line-held}
 use Rattle.htmd_law_returning.proofs.FormatLemmas.{covers-none}
 use Rattle.htmd_law_returning.proofs.InlineLemmas.{free-none, right-light}
-use Rattle.htmd_law_returning.proofs.LineFormLemmas.{IsWhole, whole-inlines, settled-one}
-use Rattle.htmd_law_returning.proofs.LineLemmas.{Numbers, unknown, numbered, is_rising, rise-more, parts_in}
+use Rattle.htmd_law_returning.proofs.LineFactLemmas.{AreLineTrees, seen-trees, line-seen}
+use Rattle.htmd_law_returning.proofs.LineFormLemmas.{IsWhole, whole-inlines}
+use Rattle.htmd_law_returning.proofs.LineParts.{Numbers, unknown, numbered, is_rising, rise-more, parts_in}
 use Rattle.htmd_law_returning.proofs.OrderLemmas.{is_ordered, ordered-next}
 use Rattle.htmd_law_returning.proofs.PageLemmas.{from-none, from-element, fresh-first, fresh-next, shown_of}
 use Rattle.htmd_law_returning.proofs.PageLemmas.{plain-content, none-shown}
-use Rattle.htmd_law_returning.proofs.ShownLineLemmas.{gives_at, line-shown-at}
+use Rattle.htmd_law_returning.proofs.InlineParts.{gives_at}
+use Rattle.htmd_law_returning.proofs.ShownLineLemmas.{line-shown-at}
 use Rattle.htmd_law_returning.proofs.StandLemmas.{Stands}
-use Rattle.htmd_law_returning.proofs.StartLemmas.{Mode, in_item, has_task, begins_boxed, May, false-true, from-not}
+use Rattle.htmd_law_returning.proofs.StartLemmas.{Mode, in_item, has_task, begins_boxed, May, false-true, true-false}
+use Rattle.htmd_law_returning.proofs.StartLemmas.{from-not}
 use Rattle.htmd_law_returning.proofs.TreesLemmas.{spelled_line, line_trees}
+use Rattle.htmd_law_returning.specs.LastingAnchors.{line_keeps}
+use Rattle.htmd_law_returning.proofs.LocalAnchors.{local_all, pending_all}
+use Rattle.htmd_law_returning.proofs.SoundTrees.{IsSoundLine, sound-leaf}
+use Rattle.htmd_shown.specs.declared.facts.Facts.{Facts}
+use Rattle.htmd_shown.specs.SimpleTrees.{element}
 
 -- ---- what a paragraph is like
 
@@ -60,31 +69,28 @@ pub record IsPlain (xs : Inlines) : Type 0 where
 abbrev pub IsParagraph : Inlines → Type 0
 IsParagraph xs = IsPlain xs ⊎ IsTask xs
 
--- without a task an item's paragraph is like others
-item-line : (xs : Inlines) → are_held xs ≡ true → is_normal_item xs ≡ is_normal_line xs
-item-line no_inlines h = refl
-item-line (inline (text s) xs) h = refl
-item-line (inline (code s) xs) h = refl
-item-line (inline (formatted f c) xs) h = refl
-item-line (inline (link a t c) xs) h = refl
-item-line (inline (image a t d) xs) h = refl
-item-line (inline (anchor id) xs) h = refl
-item-line (inline line_break xs) h = refl
-item-line (inline (task d) xs) h = false-true (settled-one (task d) xs h).own
+-- it isn't anchors alone, and its anchors come back
+abbrev pub is_lasting : Inlines → Bool
+is_lasting xs = not (are_anchors xs) && line_keeps xs
 
-normal-line : (b : Bool) (xs : Inlines) → are_held xs ≡ true
-    → cond b (is_normal_item xs) (is_normal_line xs) ≡ is_normal_line xs
-normal-line true xs h = item-line xs h
-normal-line false xs h = refl
+or-second : (a b : Bool) → a ≡ false → (a || b) ≡ true → b ≡ true
+or-second a b e h = sym (ap (λ x. x || b) e) ∙ h
+
+either-same : (b x : Bool) → cond b x x ≡ x
+either-same true x = refl
+either-same false x = refl
 
 plain-paragraph : (b : Bool) (xs : Inlines) → is_settled_line xs ≡ true → is_normal_paragraph b xs ≡ true
-    → IsParagraph xs
-plain-paragraph b xs settled h =
+    → is_lasting xs ≡ true → is_normal_item xs ≡ is_normal_line xs → IsParagraph xs
+plain-paragraph b xs settled h lasts same =
+    let last = and_parts (not (are_anchors xs)) (line_keeps xs) lasts in
     let parts = and_parts (not (has_none xs) && cond b (is_normal_item xs) (is_normal_line xs))
     (are_anchors xs || anchors_stand_well xs) h in
     let own = and_parts (not (has_none xs)) (cond b (is_normal_item xs) (is_normal_line xs)) parts.0 in
-    let held = and_parts (are_black_ended xs) (are_held xs) (line-held xs settled) in
-    let line = and_parts (are_whole xs) (are_normal false [] xs) (sym (normal-line b xs held.1) ∙ own.1) in
+    let stands = or-second (are_anchors xs) (anchors_stand_well xs) (from-not (are_anchors xs) last.0) parts.1 in
+    let line = and_parts (are_whole xs) (are_normal false [] xs)
+    (sym (ap (λ x. cond b x (is_normal_line xs)) same ∙ either-same b (is_normal_line xs)) ∙ own.1) in
+    let held = and_parts (are_black_ended xs) (are_held xs) (line-held xs line.1 settled stands last.1) in
     inl (record {
       whole = whole-inlines xs (from-not (has_none xs) own.0) held.0;
       normal = line.1;
@@ -92,28 +98,33 @@ plain-paragraph b xs settled h =
     })
 
 task-paragraph : (b d : Bool) (xs : Inlines) → is_settled_paragraph (inline (task d) xs) ≡ true
-    → is_normal_paragraph b (inline (task d) xs) ≡ true → IsTask (inline (task d) xs)
-task-paragraph true d xs settled h =
+    → is_normal_paragraph b (inline (task d) xs) ≡ true → line_keeps (inline (task d) xs) ≡ true
+    → IsTask (inline (task d) xs)
+task-paragraph true d xs settled h keeps =
     let parts = and_parts (true && is_normal_item (inline (task d) xs))
     (are_anchors (inline (task d) xs) || anchors_stand_well (inline (task d) xs)) h in
-    task-line d xs settled parts.0
-task-paragraph false d xs settled h =
+    task-line d xs settled parts.0 parts.1 keeps
+task-paragraph false d xs settled h keeps =
     let parts = and_parts (true && is_normal_line (inline (task d) xs))
     (are_anchors (inline (task d) xs) || anchors_stand_well (inline (task d) xs)) h in
     false-true (and_parts (are_whole (inline (task d) xs)) false parts.0).1
 
 pub paragraph-parts : (b : Bool) (xs : Inlines) → is_settled_paragraph xs ≡ true
-    → is_normal_paragraph b xs ≡ true
+    → is_normal_paragraph b xs ≡ true → is_lasting xs ≡ true
     → IsParagraph xs
-paragraph-parts b no_inlines settled h = false-true h
-paragraph-parts b (inline (text s) xs) settled h = plain-paragraph b (inline (text s) xs) settled h
-paragraph-parts b (inline (code s) xs) settled h = plain-paragraph b (inline (code s) xs) settled h
-paragraph-parts b (inline (formatted f c) xs) settled h = plain-paragraph b (inline (formatted f c) xs) settled h
-paragraph-parts b (inline (link a t c) xs) settled h = plain-paragraph b (inline (link a t c) xs) settled h
-paragraph-parts b (inline (image a t d) xs) settled h = plain-paragraph b (inline (image a t d) xs) settled h
-paragraph-parts b (inline (anchor id) xs) settled h = plain-paragraph b (inline (anchor id) xs) settled h
-paragraph-parts b (inline line_break xs) settled h = plain-paragraph b (inline line_break xs) settled h
-paragraph-parts b (inline (task d) xs) settled h = inr (task-paragraph b d xs settled h)
+paragraph-parts b no_inlines settled h lasts = false-true h
+paragraph-parts b (inline (text s) xs) settled h lasts = plain-paragraph b (inline (text s) xs) settled h lasts refl
+paragraph-parts b (inline (code s) xs) settled h lasts = plain-paragraph b (inline (code s) xs) settled h lasts refl
+paragraph-parts b (inline (formatted f c) xs) settled h lasts =
+    plain-paragraph b (inline (formatted f c) xs) settled h lasts refl
+paragraph-parts b (inline (link a t c) xs) settled h lasts =
+    plain-paragraph b (inline (link a t c) xs) settled h lasts refl
+paragraph-parts b (inline (image a t d) xs) settled h lasts =
+    plain-paragraph b (inline (image a t d) xs) settled h lasts refl
+paragraph-parts b (inline (anchor id) xs) settled h lasts =
+    plain-paragraph b (inline (anchor id) xs) settled h lasts refl
+paragraph-parts b (inline line_break xs) settled h lasts = plain-paragraph b (inline line_break xs) settled h lasts refl
+paragraph-parts b (inline (task d) xs) settled h lasts = inr (task-paragraph b d xs settled h lasts)
 
 pub paragraph-some : (xs : Inlines) → IsParagraph xs → has_none xs ≡ false
 paragraph-some xs own = ⊎_elim (λ p. p.whole.some) (λ t. ap has_none t.is) own
@@ -130,7 +141,7 @@ paragraph-fed ns xs own rise mode done may =
     own
 
 -- only the first paragraph of an item begins with a task
-unboxed-line : (xs : Inlines) → is_normal_paragraph false xs ≡ true → has_task xs ≡ false
+pub unboxed-line : (xs : Inlines) → is_normal_paragraph false xs ≡ true → has_task xs ≡ false
 unboxed-line no_inlines h = refl
 unboxed-line (inline (text s) xs) h = refl
 unboxed-line (inline (code s) xs) h = refl
@@ -187,12 +198,12 @@ module _ (scripting is_rich : Bool) where
       (shown_of scripting is_rich (Some (pairs_of_box false)) f))
       (plain-content id (shown_of scripting is_rich None inside)))
 
-  box-gives : (n id : ℕ) (d : Bool) (ts : Simples)
-      → gives_at scripting is_rich false n [] (more (made id role.Input (pairs_of_box d) none) ts)
-      ≡ part.box d ∷ gives_at scripting is_rich false n [] ts
+  box-gives : (n id : ℕ) (facts : Facts) (d : Bool) (ts : Simples)
+      → gives_at is_rich false n [] (more (element id role.Input facts (pairs_of_box d) none) ts)
+      ≡ part.box d ∷ gives_at is_rich false n [] ts
   unfolding node_of
-  box-gives n id true ts = refl
-  box-gives n id false ts = refl
+  box-gives n id facts true ts = refl
+  box-gives n id facts false ts = refl
 
   box-steady : (d : Bool) → IsSteady scripting is_rich (codes "input") (pairs_of_box d)
   box-steady d = record {
@@ -206,11 +217,13 @@ module _ (scripting is_rich : Bool) where
   pub record IsParagraphTree (n : ℕ) (ts : Simples) (xs : Inlines) : Type 0 where
     pub numbers : Numbers
     pub rising : is_rising 0 numbers xs ≡ true
-    pub bare : are_bare ts ≡ true
+    pub sound : IsSoundLine xs ts
+    pub waits : pending_all [] ts ≡ []
     pub gives : (w : Writing)
-        → fed_all w (gives_at scripting is_rich false n [] ts) ≡ fed_all w (parts_in [] numbers xs)
+        → fed_all w (gives_at is_rich false n [] (local_all [] ts)) ≡ fed_all w (parts_in [] numbers xs)
     pub spent : AllSpend (weight_among xs) (said_among xs) ts
     pub lined : list_any (has is_paragraph) (list_of ts) ≡ false
+    pub plain : has_task xs ≡ false → AreLineTrees xs ts
 
   plain-shown : (xs : Inlines) (f : NumberedForest) (n : ℕ) → Stands (value_forest f) (line_trees xs)
       → IsPlain xs → line_shows is_rich xs ≡ true → weight_among xs < greatest_count
@@ -222,10 +235,12 @@ module _ (scripting is_rich : Bool) where
       record {
         numbers = line.numbers;
         rising = line.rising;
-        bare = line.bare;
+        sound = line.sound;
+        waits = line.waits;
         gives = line.gives false n;
         spent = line.spent;
         lined = line.lined;
+        plain = λ h. seen-trees line.plain (line-seen xs false [] own.whole own.normal own.held) line.bare;
       }
 
   task-shown : (d : Bool) (xs : Inlines) (f : NumberedForest) (n : ℕ)
@@ -251,11 +266,15 @@ module _ (scripting is_rich : Bool) where
       (record {
         numbers = numbered found.id unknown rest.numbers;
         rising = rise-more 0 found.id unknown rest.numbers (task d) xs order.least refl rest.rising;
-        bare = ap (λ b. (b && true) && are_bare ts) (box-nameless d) ∙ rest.bare;
-        gives = λ w. ap (fed_all w) (box-gives n found.id d ts) ∙ rest.gives false n (fed w (part.box d));
+        sound = sound-leaf (task d) xs tree ts refl (λ id. refl) (ap (λ b. b && true) (box-nameless d))
+            (λ e. false-true e) rest.sound;
+        waits = rest.waits;
+        gives = λ w. ap (fed_all w) (box-gives n found.id (facts_of none) d (local_all [] ts))
+            ∙ rest.gives false n (fed w (part.box d));
         spent = spend-more 0 (weight_among xs) tree ts
             (spend-element 0 found.id role.Input (facts_of none) pairs none refl spend-none) rest.spent;
         lined = rest.lined;
+        plain = λ h. true-false h;
       })
 
   pub paragraph-shown-at : (xs : Inlines) (f : NumberedForest) (n : ℕ) → Stands (value_forest f) (line_trees xs)

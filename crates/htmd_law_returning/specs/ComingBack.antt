@@ -13,7 +13,7 @@ use Rattle.htmd_law_rendering.specs.PlainReadings.{elements_fit}
 use Rattle.htmd_law_rendering.specs.DocumentLaws.{reading_of}
 use Rattle.htmd_law_returning.specs.EncodedDocuments.{encoded}
 use Rattle.htmd_law_returning.specs.SettledDocuments.{are_settled, have_bare_headers}
-use Rattle.htmd_law_returning.specs.NoAnchors.{blocks_have_no_anchors}
+use Rattle.htmd_law_returning.specs.LastingAnchors.{anchors_stay}
 use Rattle.htmd_law_returning.specs.PageFormats.{formats_show}
 use Rattle.htmd_law_returning.specs.ReturningLaws.{whole_sight}
 
@@ -21,13 +21,13 @@ use Rattle.htmd_law_returning.specs.ReturningLaws.{whole_sight}
 abbrev pub page_back : Bool → DocumentOptions → Blocks → NumberedTree
 page_back scripting options d = tree_of (html5_document scripting (html_of (reading_of options d))) 0
 
--- A normal document without anchors, whose elements may stand where they do, and which is settled with its addresses
--- encoded, is with these the document of that page, for all options, with whatever anchors, with scripting or without,
--- rich or not, if such a page shows its formats and elements; on a rich page a table is an
--- element where nothing shows in its header.
+-- A normal document with few link definitions, whose elements may stand where they do and aren't too deep in each
+-- other, which is settled with its addresses encoded and whose anchors stay, is with these the document of that page,
+-- for all options, with scripting or without, rich or not, if such a page shows its formats and elements; on a rich
+-- page a table is an element where nothing shows in its header.
 abbrev pub SettledComeBack : Type 0
 SettledComeBack = (which : Anchors) (scripting is_rich : Bool) (options : DocumentOptions) (d : Blocks)
     → IsNormal d → HasFewDefinitions options d → elements_fit d ≡ true
-    → are_settled (encoded d) ≡ true → blocks_have_no_anchors d ≡ true → formats_show is_rich d ≡ true
+    → are_settled (encoded d) ≡ true → anchors_stay which (encoded d) ≡ true → formats_show is_rich d ≡ true
     → (is_rich && have_bare_headers d) ≡ false
     → document_of_tree which (whole_sight scripting is_rich) (page_back scripting options d) ≡ encoded d

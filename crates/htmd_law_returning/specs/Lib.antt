@@ -4,7 +4,9 @@ pub mod PlainImages
 pub mod NoAnchors
 pub mod FittedRows
 pub mod WholeLines
+pub mod SettledTables
 pub mod SettledDocuments
+pub mod LastingAnchors
 pub mod EncodedDocuments
 pub mod PageFormats
 pub mod ReturningLaws

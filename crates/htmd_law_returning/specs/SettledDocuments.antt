@@ -1,37 +1,41 @@
 -- What a page has as well: what is normal, and comes back from its page. So far paragraphs, headings, code blocks,
--- thematic breaks, quotes, lists, tables and `details`, with texts, codes, links, images, breaks, formats and tasks.
-use Rattle.std.specs.Prelude.{ℕ, suc, ◌+◌, ◌*◌, ◌==◌, Bool, true, false, not, ◌&&◌, ◌||◌, nat_le, nat_lt}
+-- thematic breaks, quotes, lists, tables, and of elements `details`, lists of terms, figures and tables of rows, with
+-- texts, codes, links, images, breaks, formats and tasks.
+use Rattle.std.specs.Prelude.{ℕ, suc, ◌+◌, ◌*◌, ◌==◌, Bool, true, false, not, ◌&&◌, ◌||◌, nat_le}
+use Rattle.std.specs.Prelude.{nat_lt}
 use Rattle.std.specs.Prelude.{if◌then◌else◌, List, [], ◌∷◌, length}
 use Rattle.std.specs.Prelude.{Option, Some, None}
 use Rattle.std.specs.Prelude.{◌++◌}
-use Rattle.std.specs.Prelude.{is_some}
 use Rattle.std.specs.Option.{unwrap_or}
 use Rattle.std.specs.List.{list_all, list_any}
 use Rattle.std.specs.Str.{chars, is_utf8, bytes_eq}
-use Rattle.htmd_document.specs.Documents.{Inline, text, code, formatted, link, image, line_break, task}
+use Rattle.htmd_document.specs.Documents.{Inline, text, code, formatted, link, image, anchor, line_break, task}
 use Rattle.htmd_document.specs.Documents.{Inlines, no_inlines, inline, Block, paragraph, heading, code_block, quote}
 use Rattle.htmd_document.specs.Documents.{thematic_break, Blocks, no_blocks, block}
 use Rattle.htmd_document.specs.Documents.{list, Items, no_items, item, table, element, BlockAttribute}
-use Rattle.htmd_document.specs.FlatDocuments.{text_in_line}
+use Rattle.htmd_document.specs.FlatDocuments.{flattened}
 use Rattle.htmd_document.specs.declared.document.AttributeName.{AttributeName}
 use Rattle.htmd_document.specs.declared.document.AttributeName.TheVariants as attribute
 use Rattle.htmd_document.specs.declared.document.BlockElement.{BlockElement}
 use Rattle.htmd_document.specs.declared.document.BlockElement.TheVariants as an
+use Rattle.htmd_lexical.specs.Characters.{null}
 use Rattle.htmd_lexical.specs.CharacterClasses.{is_empty}
 use Rattle.htmd_document.specs.Formats.{Format, Abbreviation}
 use Rattle.htmd_commonmark_reading.specs.Rendering.{stays_in_address}
-use Rattle.htmd_document_of_tree.specs.Limits.{characters, always_written}
+use Rattle.htmd_document_of_tree.specs.Limits.{characters, always_written, Written, nothing_written, with_text}
 use Rattle.htmd_document.specs.NormalDocuments.{item_count, ends_filled}
 use Rattle.htmd_document.specs.NormalInlines.{has_none}
-use Rattle.htmd_document.specs.TightItems.{is_tight_item}
+use Rattle.htmd_document.specs.TightItems.{is_tight_item, is_filled}
 use Rattle.htmd_flow.specs.Languages.{is_name, is_none}
 use Rattle.htmd_flow.specs.Lists.{holds_paragraph, greatest_in}
 use Rattle.htmd_shown.specs.Attributes.{in_line, is_to_part}
+use Rattle.htmd_shown.specs.Roles.{is_among}
 use Rattle.htmd_shown.specs.ShownTexts.{is_shown}
 use Rattle.htmd_shown.specs.Spaces.{is_blank_text}
 use Rattle.htmd_shown.specs.Pieces.{greatest_count}
 use Rattle.htmd_shown.specs.Marks.{is_one, is_usual_sign, letters}
-use Rattle.htmd_law_rendering.specs.PlainReadings.{items_have_no_elements}
+use Rattle.htmd_law_returning.specs.SettledTables.{is_border_at_most, are_rows_of_element, rows_in, is_settled_cell}
+use Rattle.htmd_law_returning.specs.SettledTables.{is_lean}
 use Rattle.htmd_law_returning.specs.WholeLines.{begins_white_text, ends_white_text, is_whole}
 
 -- a page shows no U+FEFF
@@ -78,9 +82,24 @@ abbrev mutual
   letters_in no_inlines = []
   letters_in (inline x rest) = letters_of x ++ letters_in rest
 
--- a link of one usual sign, as #, to a part of the page: in a heading it is for its own place
+abbrev mutual
+  pub has_image : Inline → Bool
+  has_image (formatted f content) = have_images content
+  has_image (link a t content) = have_images content
+  has_image (image a t description) = true
+  has_image x = false
+
+  pub have_images : Inlines → Bool
+  have_images no_inlines = false
+  have_images (inline x rest) = has_image x || have_images rest
+
+-- one usual sign alone, as #
+abbrev pub is_sign_alone : Inlines → Bool
+is_sign_alone content = is_one is_usual_sign (letters_in content) && not (have_images content)
+
+-- such a link to a part of the page: in a heading it is for its own place
 abbrev pub is_own_place : List ℕ → Inlines → Bool
-is_own_place address content = is_to_part address && is_one is_usual_sign (letters_in content)
+is_own_place address content = is_to_part address && is_sign_alone content
 
 abbrev mutual
   -- no link is for its own place
@@ -104,8 +123,9 @@ abbrev mutual
   is_settled_inline (link address title content) = is_settled_link address title && are_settled_inlines content
   is_settled_inline (image address title description) =
       is_settled_address address && is_settled_title title && is_one_line description
+  is_settled_inline (anchor id) = true
   is_settled_inline line_break = true
-  is_settled_inline x = false
+  is_settled_inline (task is_checked) = false
 
   pub are_settled_inlines : Inlines → Bool
   are_settled_inlines no_inlines = true
@@ -136,16 +156,17 @@ has_settled_language (Some s) = is_name s && not (is_none s)
 
 -- ---- lists
 
--- a page shows that a list is loose: by a paragraph in an item, or by more than a tight item has
+-- a page shows that a list is loose: by a paragraph in an item, or by more than a tight item has, with the tags of
+-- elements in lines
 abbrev pub show_loose : Items → Bool
 show_loose no_items = false
-show_loose (item bs rest) = (holds_paragraph bs || not (is_tight_item bs)) || show_loose rest
+show_loose (item bs rest) = (holds_paragraph bs || not (is_tight_item (flattened bs))) || show_loose rest
 
 abbrev pub are_tight_items : Items → Bool
 are_tight_items no_items = true
-are_tight_items (item bs rest) = is_tight_item bs && are_tight_items rest
+are_tight_items (item bs rest) = is_tight_item (flattened bs) && are_tight_items rest
 
--- a table stands in no tight list of two items
+-- neither a table nor an element stands in an item of a tight list of two items or more
 abbrev pub stay_tight : Items → Bool
 stay_tight no_items = true
 stay_tight (item bs no_items) = true
@@ -175,27 +196,116 @@ is_open_at_most [] = true
 is_open_at_most (a ∷ []) = is_open a.name && is_empty a.value
 is_open_at_most (a ∷ b ∷ rest) = false
 
--- so far a `details`, open or not, around more than a text
+abbrev pub has_no_attributes : List BlockAttribute → Bool
+has_no_attributes [] = true
+has_no_attributes (a ∷ rest) = false
+
+-- it is an element in which something stands
+abbrev pub is_filled_element : Block → Bool
+is_filled_element (element name attributes content) = is_filled content
+is_filled_element b = false
+
+abbrev pub has_filled_element : Blocks → Bool
+has_filled_element no_blocks = false
+has_filled_element (block b bs) = is_filled_element b || has_filled_element bs
+
+-- as in a heading, in a paragraph a link that is a sign alone stands for its own place
+abbrev pub is_title_line : Block → Bool
+is_title_line (paragraph content) = are_away content
+is_title_line (heading level content) = true
+is_title_line b = false
+
+-- so far paragraphs and headings
+abbrev pub is_title : Blocks → Bool
+is_title no_blocks = true
+is_title (block b bs) = is_title_line b && is_title bs
+
+-- a caption of a figure is so far a paragraph
+abbrev pub is_caption : Blocks → Bool
+is_caption (block (paragraph content) no_blocks) = are_away content
+is_caption content = false
+
+abbrev pub is_of_figure : Block → Bool
+is_of_figure (element an.FigureCaption attributes content) = true
+is_of_figure b = false
+
+-- beside captions stand so far paragraphs, quotes and thematic breaks
+abbrev pub are_in_figure : Blocks → Bool
+are_in_figure no_blocks = true
+are_in_figure (block b bs) = (is_of_figure b || is_lean b) && are_in_figure bs
+
+abbrev pub has_caption : Blocks → Bool
+has_caption no_blocks = false
+has_caption (block b bs) = is_of_figure b || has_caption bs
+
+-- a `details` is open or not, something stands in a term or a meaning of each list of these, summaries and terms are
+-- titles, and a figure has a caption; a table has a border of 1 at most, and rows and cells that come back: else a page
+-- has what is in it
 abbrev pub is_settled_element : BlockElement → List BlockAttribute → Blocks → Bool
-is_settled_element an.Details attributes content = is_open_at_most attributes && not (is_some (text_in_line content))
+is_settled_element an.Details attributes content = is_open_at_most attributes
+is_settled_element an.Summary attributes content = has_no_attributes attributes && is_title content
+is_settled_element an.Terms attributes content = has_no_attributes attributes && has_filled_element content
+is_settled_element an.Term attributes content = has_no_attributes attributes && is_title content
+is_settled_element an.Meaning attributes content = has_no_attributes attributes
+is_settled_element an.Figure attributes content =
+    has_no_attributes attributes && (are_in_figure content && has_caption content)
+is_settled_element an.FigureCaption attributes content = has_no_attributes attributes && is_caption content
+is_settled_element an.Table attributes content =
+    is_border_at_most attributes && are_rows_of_element attributes (rows_in None content)
+is_settled_element an.Row attributes content = has_no_attributes attributes
+is_settled_element an.Cell attributes content = is_settled_cell attributes content
+is_settled_element an.HeaderCell attributes content = is_settled_cell attributes content
 is_settled_element name attributes content = false
+
+-- the parts of an element, which stand in it alone
+abbrev pub is_part : BlockElement → BlockElement → Bool
+is_part an.Details an.Summary = true
+is_part an.Figure an.FigureCaption = true
+is_part an.Terms an.Term = true
+is_part an.Terms an.Meaning = true
+is_part an.Table an.Row = true
+is_part an.Row an.Cell = true
+is_part an.Row an.HeaderCell = true
+is_part outer name = false
+
+abbrev pub has_parts_alone : BlockElement → Bool
+has_parts_alone an.Terms = true
+has_parts_alone an.Table = true
+has_parts_alone an.Row = true
+has_parts_alone name = false
+
+abbrev pub stands_anywhere : BlockElement → Bool
+stands_anywhere an.Details = true
+stands_anywhere an.Figure = true
+stands_anywhere an.Terms = true
+stands_anywhere an.Table = true
+stands_anywhere name = false
+
+abbrev pub may_stand_in : BlockElement → BlockElement → Bool
+may_stand_in outer name = is_part outer name || (not (has_parts_alone outer) && stands_anywhere name)
 
 -- ---- blocks
 
 abbrev mutual
-  -- so far no element stands in a list
   pub is_settled_block : Block → Bool
   is_settled_block (paragraph content) = is_settled_paragraph content
   is_settled_block (heading level content) = is_settled_line content && are_away content
   is_settled_block (code_block language s) = has_settled_language language && is_settled_code s
   is_settled_block (quote content) = are_settled_blocks content
   is_settled_block thematic_break = true
-  is_settled_block (list start is_tight items) =
-      is_right_list is_tight items && are_settled_items items && items_have_no_elements items
+  is_settled_block (list start is_tight items) = is_right_list is_tight items && are_settled_items items
   is_settled_block (table alignments header rows) = is_settled_table header rows
   is_settled_block (element name attributes content) =
-      is_settled_element name attributes content && are_settled_blocks content
+      stands_anywhere name && is_settled_element name attributes content && are_settled_in name content
   is_settled_block b = false
+
+  -- what stands in an element: its parts, and what stands anywhere
+  pub are_settled_in : BlockElement → Blocks → Bool
+  are_settled_in outer no_blocks = true
+  are_settled_in outer (block (element name attributes content) bs) =
+      (may_stand_in outer name && is_settled_element name attributes content && are_settled_in name content)
+      && are_settled_in outer bs
+  are_settled_in outer (block b bs) = (not (has_parts_alone outer) && is_settled_block b) && are_settled_in outer bs
 
   pub are_settled_blocks : Blocks → Bool
   are_settled_blocks no_blocks = true
@@ -293,47 +403,66 @@ abbrev mutual
 
 -- ---- how much a document says
 
-abbrev mutual
-  -- the characters of texts and codes
-  pub said_of : Inline → ℕ
-  said_of (text s) = characters s
-  said_of (code s) = characters s
-  said_of (formatted f content) = said_among content
-  said_of (link address title content) = said_among content
-  said_of x = 0
+-- after the address and title of one more link or abbreviation, which count once
+abbrev pub with_own : Written → List ℕ → List ℕ → Written
+with_own w address title =
+    if is_among w.pairs (address ++ null ∷ title) then w
+    else record {
+      count = w.count + (characters address + characters title);
+      pairs = (address ++ null ∷ title) ∷ w.pairs;
+    }
 
-  pub said_among : Inlines → ℕ
-  said_among no_inlines = 0
-  said_among (inline x rest) = said_of x + said_among rest
-
-abbrev pub said_of_cells : List Inlines → ℕ
-said_of_cells cells = over_cells said_among cells
-
-abbrev pub said_of_rows : List (List Inlines) → ℕ
-said_of_rows rows = over_rows said_among rows
+abbrev pub with_format : Format → Written → Written
+with_format (Abbreviation title) w = with_own w [] title
+with_format f w = w
 
 abbrev mutual
-  pub said_of_block : Block → ℕ
-  said_of_block (paragraph content) = said_among content
-  said_of_block (heading level content) = said_among content
-  said_of_block (code_block language s) = characters s
-  said_of_block (quote content) = said_in content
-  said_of_block (list start is_tight items) = said_of_items items
-  said_of_block (element name attributes content) = said_in content
-  said_of_block (table alignments header rows) = said_of_cells header + said_of_rows rows
-  said_of_block b = 0
+  -- what is written so far, with the characters of texts and codes, and with each pair of address and title once
+  pub said_of : Inline → Written → Written
+  said_of (text s) w = with_text w s
+  said_of (code s) w = with_text w s
+  said_of (formatted f content) w = said_among content (with_format f w)
+  said_of (link address title content) w = said_among content (with_own w address (unwrap_or title []))
+  said_of x w = w
 
-  pub said_in : Blocks → ℕ
-  said_in no_blocks = 0
-  said_in (block b bs) = said_of_block b + said_in bs
+  pub said_among : Inlines → Written → Written
+  said_among no_inlines w = w
+  said_among (inline x rest) w = said_among rest (said_of x w)
 
-  pub said_of_items : Items → ℕ
-  said_of_items no_items = 0
-  said_of_items (item bs rest) = said_in bs + said_of_items rest
+abbrev pub said_of_cells : List Inlines → Written → Written
+said_of_cells [] w = w
+said_of_cells (c ∷ cs) w = said_of_cells cs (said_among c w)
+
+abbrev pub said_of_rows : List (List Inlines) → Written → Written
+said_of_rows [] w = w
+said_of_rows (r ∷ rs) w = said_of_rows rs (said_of_cells r w)
+
+abbrev mutual
+  pub said_of_block : Block → Written → Written
+  said_of_block (paragraph content) w = said_among content w
+  said_of_block (heading level content) w = said_among content w
+  said_of_block (code_block language s) w = with_text w s
+  said_of_block (quote content) w = said_in content w
+  said_of_block (list start is_tight items) w = said_of_items items w
+  said_of_block (element name attributes content) w = said_in content w
+  said_of_block (table alignments header rows) w = said_of_rows rows (said_of_cells header w)
+  said_of_block b w = w
+
+  pub said_in : Blocks → Written → Written
+  said_in no_blocks w = w
+  said_in (block b bs) w = said_in bs (said_of_block b w)
+
+  pub said_of_items : Items → Written → Written
+  said_of_items no_items w = w
+  said_of_items (item bs rest) w = said_of_items rest (said_in bs w)
+
+-- how much is written in all
+abbrev pub said : Blocks → ℕ
+said d = (said_in d nothing_written).count
 
 -- a page's budget pays for its links; what is in one is counted up to a number
 abbrev pub is_light : Blocks → Bool
-is_light d = nat_lt (weight_in d) greatest_count && nat_le (weight_in d) (16 * said_in d + always_written)
+is_light d = nat_lt (weight_in d) greatest_count && nat_le (weight_in d) (16 * said d + always_written)
 
 -- ---- headers of tables
 
@@ -357,7 +486,7 @@ abbrev mutual
   items_have_bare_headers no_items = false
   items_have_bare_headers (item bs rest) = have_bare_headers bs || items_have_bare_headers rest
 
--- Past eight lists and quotes numbers from others than 1 on are below 100, and past a budget a page's links are their
--- content.
+-- In eight lists and quotes or more, numbers that don't begin at 1 are below 100, and past a budget a page's links are
+-- their content.
 abbrev pub are_settled : Blocks → Bool
 are_settled d = are_settled_blocks d && numbers_fit 0 d && is_light d

@@ -2,8 +2,8 @@
 ghost use Rattle.htmd_law_returning.specs.ReturningLaws.{SettledReturns};
 
 /// The document of the page of what is read is what one sees in it, with its addresses encoded, if that is a normal
-/// document without anchors, settled with these, whose formats, elements and tables show, and no raw tag stands in the
-/// description of an image.
+/// document, settled with these, whose anchors stay and whose formats, elements and tables show, and no raw tag stands
+/// in the description of an image.
 pub fn settled_returns()
     ensures { SettledReturns }
 {}
