@@ -1,5 +1,8 @@
 -- Worked rows: what is common, and what isn't, and a page that comes back. All but the last holds by computing.
-use Rattle.std.proofs.Common.{◌≡◌, ◌<◌, ◌^◌, true, false, [], ◌∷◌, ◌++◌, length, refl, Some, None}
+use Rattle.std.proofs.Common.{◌≡◌, ◌<◌, ◌^◌, Bool, true, false, [], ◌∷◌, ◌++◌, length, refl}
+use Rattle.std.proofs.Common.{Some, None}
+use Rattle.std.specs.Str.Lossy.{utf8_lossy, utf8_valid_len}
+use Rattle.percent_encoding.specs.Percent.{percent_decode}
 use Rattle.std.specs.Prelude.{codes}
 use Rattle.std.specs.Str.{chars, is_utf8}
 use Rattle.htmd_nodes.specs.NumberedTrees as node
@@ -7,9 +10,13 @@ use Rattle.htmd_nodes.specs.NumberedTrees.{NumberedTree}
 use Rattle.htmd_document.specs.declared.document.Alignment.TheVariants as align
 use Rattle.htmd_document.specs.Documents.{text, formatted, link, image, anchor, line_break, task, Inlines, no_inlines}
 use Rattle.htmd_document.specs.Documents.{inline}
-use Rattle.htmd_document.specs.Documents.{paragraph, heading, quote, list, table, element, Blocks, no_blocks, block}
+use Rattle.htmd_document.specs.Documents.{Block, paragraph, heading, code_block, quote, list, table, element, Blocks}
+use Rattle.htmd_document.specs.Documents.{no_blocks, block}
 use Rattle.htmd_document.specs.Documents.{Items, no_items, item}
+use Rattle.htmd_document.specs.declared.document.BlockElement.{BlockElement}
 use Rattle.htmd_document.specs.declared.document.BlockElement.TheVariants as name
+use Rattle.htmd_grammar.specs.HtmlDocuments.{below_body}
+use Rattle.htmd_law_rendering.specs.PlainReadings.{elements_are_strict}
 use Rattle.htmd_document.specs.Formats.{Emphasis, Superscript, Marked}
 use Rattle.htmd_flow.specs.Flows.{node_of}
 use Rattle.htmd_shown.specs.Roles.{role_of, table_role, heading_or_block, block_role, inline_role, element_role}
@@ -19,15 +26,22 @@ use Rattle.htmd_document_of_tree.specs.TreeDocuments.{document_by, document_of_t
 use Rattle.htmd_commonmark.specs.declared.options.DocumentOptions.{DocumentOptions}
 use Rattle.htmd_commonmark.specs.DocumentMarkdown.{markdown_of}
 use Rattle.htmd_law_documents.specs.TreeForms.{is_text_tree}
+use Rattle.htmd_law_returning.proofs.TreesLemmas.{pairs_of_anchor}
+use Rattle.htmd_law_rendering.specs.RenderedTrees.{pairs_of_link}
 use Rattle.htmd_law_returning.specs.EncodedDocuments.{encoded}
 use Rattle.htmd_law_returning.specs.ReturningLaws.{whole_sight}
 use Rattle.htmd_law_returning.specs.ComingBack.{SettledComeBack}
-use Rattle.htmd_law_settled.specs.CommonDocuments.{is_common}
+use Rattle.htmd_law_settled.specs.StandingElements.{in_flow, are_placed}
+use Rattle.htmd_law_settled.specs.CommonDocuments as common
 use Rattle.htmd_law_settled.specs.PageLaws.{ComesBack}
 use Rattle.htmd_law_settled.proofs.PageLemmas.{come-back}
 use lib.Utf8.{encode}
 
 -- ---- what is common
+
+-- with all anchors
+abbrev is_common : Blocks → Bool
+is_common d = common.is_common which.All d
 
 -- > a[b](c)d, with white space past ASCII beside the link
 abbrev a_link : Blocks
@@ -57,6 +71,11 @@ a_sign_in_a_paragraph = refl
 a_sign_in_a_heading : is_common (block (heading 2 a_sign) no_blocks) ≡ false
 unfolding chars encode
 a_sign_in_a_heading = refl
+
+a_sign_and_an_image : is_common (block (heading 2 (inline (link (codes "#a") None (inline (text (codes "#"))
+    (inline (image (codes "b") None []) no_inlines))) no_inlines)) no_blocks) ≡ true
+unfolding chars encode
+a_sign_and_an_image = refl
 
 -- an address counts as HTML has it
 a_bent_address : is_common (encoded (line (inline (image (codes "a b") None (codes "c")) no_inlines))) ≡ true
@@ -96,19 +115,88 @@ a_mark : is_common (line (inline (formatted Marked (inline (text (codes "a")) no
 unfolding chars encode
 a_mark = refl
 
--- around two paragraphs
+-- a `details` around two paragraphs or one text, and a list of terms
 a_details : is_common (block (element name.Details [] (block (paragraph broken) (line broken))) no_blocks) ≡ true
 unfolding chars encode
 a_details = refl
 
-an_element : is_common (block (element name.Details [] (line (inline (text (codes "a")) no_inlines))) no_blocks)
-    ≡ false
+-- in a list
+a_details_in_a_list : is_common (block (list None false (item (block (element name.Details [] (block (paragraph broken)
+    (line broken))) no_blocks) no_items)) no_blocks) ≡ true
 unfolding chars encode
-an_element = refl
+a_details_in_a_list = refl
 
-an_anchor : is_common (line (inline (anchor (codes "a")) (inline (text (codes "b")) no_inlines))) ≡ false
+abbrev around_a_text : BlockElement → Block
+around_a_text outer = element outer [] (line (inline (text (codes "a")) no_inlines))
+
+a_summary : is_common (block (element name.Details [] (block (around_a_text name.Summary) no_blocks)) no_blocks)
+    ≡ true
+unfolding chars encode
+a_summary = refl
+
+-- nor is it asked where a summary stands: on no page elsewhere
+a_summary_alone : is_common (block (around_a_text name.Summary) no_blocks) ≡ true
+unfolding chars encode
+a_summary_alone = refl
+
+a_term : is_common (block (element name.Terms [] (block (around_a_text name.Term)
+    (block (element name.Meaning [] (block (paragraph broken) (line broken))) no_blocks))) no_blocks) ≡ true
+unfolding chars encode
+a_term = refl
+
+abbrev a_figure : Block → Blocks
+a_figure b = block (element name.Figure [] (block b (block (around_a_text name.FigureCaption) no_blocks))) no_blocks
+
+around_a_line : is_common (a_figure (paragraph broken)) ≡ true
+unfolding chars encode
+around_a_line = refl
+
+-- so far not around code
+around_code : is_common (a_figure (code_block None (codes "a"))) ≡ false
+unfolding chars encode
+around_code = refl
+
+an_anchor : is_common (line (inline (anchor (codes "a")) (inline (text (codes "b")) no_inlines))) ≡ true
 unfolding chars encode
 an_anchor = refl
+
+an_anchor_within_a_heading : is_common (block (heading 2 (inline (text (codes "a")) (inline (anchor (codes "b"))
+    (inline (text (codes "c")) no_inlines)))) no_blocks) ≡ false
+unfolding chars encode
+an_anchor_within_a_heading = refl
+
+-- alone, right before a code block and before a paragraph
+an_anchor_before_code : is_common (block (paragraph (inline (anchor (codes "a")) no_inlines))
+    (block (code_block None (codes "b")) no_blocks)) ≡ true
+unfolding chars encode
+an_anchor_before_code = refl
+
+an_anchor_before_a_paragraph : is_common (block (paragraph (inline (anchor (codes "a")) no_inlines)) (line broken))
+    ≡ false
+unfolding chars encode
+an_anchor_before_a_paragraph = refl
+
+-- rows around a caption stand where HTML has them, a cell outside a row doesn't
+abbrev holding : BlockElement → Blocks → Blocks
+holding n bs = block (element n [] bs) no_blocks
+
+abbrev a_row : Block
+a_row = element name.Row [] (holding name.Cell (line broken))
+
+rows_around : elements_are_strict below_body (holding name.Table (block a_row
+    (block (element name.Caption [] (line broken)) (block a_row no_blocks)))) ≡ true
+rows_around = refl
+
+a_cell_alone : elements_are_strict below_body (holding name.Cell (line broken)) ≡ false
+a_cell_alone = refl
+
+-- a summary stands in a `details`, a caption of a figure doesn't
+a_summary_there : are_placed in_flow (holding name.Details (block (around_a_text name.Summary) no_blocks)) ≡ true
+a_summary_there = refl
+
+a_caption_there : are_placed in_flow (holding name.Details (block (around_a_text name.FigureCaption) no_blocks))
+    ≡ false
+a_caption_there = refl
 
 abbrev items_of : Blocks → Items
 items_of bs = item bs (item bs no_items)
@@ -157,13 +245,13 @@ its_texts_are_utf8 : is_text_tree a_page ≡ true
 unfolding chars encode is_utf8
 its_texts_are_utf8 = refl
 
-its_document_is_common : is_common (encoded its_document) ≡ true
+its_document_is_common : common.is_common which.Linked (encoded its_document) ≡ true
 unfolding chars encode role_of table_role heading_or_block block_role inline_role element_role shown document_by
     document_of_tree node_of
 its_document_is_common = refl
 
 it_comes_back : SettledComeBack → (options : DocumentOptions)
-    → length (markdown_of options its_document) < 2 ^ 64 → ComesBack false options its_document
+    → length (markdown_of options its_document) < 2 ^ 64 → ComesBack which.Linked false options its_document
 it_comes_back returned options =
     come-back returned which.Linked sight a_page options its_texts_are_utf8 its_document_is_common
 
@@ -190,13 +278,38 @@ rich_texts_are_utf8 : is_text_tree a_rich_page ≡ true
 unfolding chars encode is_utf8
 rich_texts_are_utf8 = refl
 
-rich_document_is_common : is_common (encoded rich_document) ≡ true
+rich_document_is_common : common.is_common which.Linked (encoded rich_document) ≡ true
 unfolding chars encode role_of table_role heading_or_block block_role inline_role element_role shown document_by
     document_of_tree node_of
 rich_document_is_common = refl
 
 -- on a rich page
 it_comes_back_there : SettledComeBack → (options : DocumentOptions)
-    → length (markdown_of options rich_document) < 2 ^ 64 → ComesBack true options rich_document
+    → length (markdown_of options rich_document) < 2 ^ 64 → ComesBack which.Linked true options rich_document
 it_comes_back_there returned options =
     come-back returned which.Linked rich_sight a_rich_page options rich_texts_are_utf8 rich_document_is_common
+
+-- ---- a page with an anchor
+
+-- <h2 id="x">b</h2><p><a href="#x">c</a></p>
+abbrev a_linked_page : NumberedTree
+a_linked_page =
+    node.document 0 (node.more (node.element 1 (codes "h2") (pairs_of_anchor (codes "x"))
+    (node.more (node.text 2 (codes "b")) node.none)) (node.more (node.element 3 (codes "p") []
+    (node.more (node.element 4 (codes "a") (pairs_of_link (codes "#x") None)
+    (node.more (node.text 5 (codes "c")) node.none)) node.none)) node.none))
+
+abbrev linked_document : Blocks
+linked_document = document_of_tree which.Linked sight a_linked_page
+
+it_has_an_anchor : linked_document ≡ block (heading 2 (inline (anchor (codes "x"))
+    (inline (text (codes "b")) no_inlines))) (line (inline (link (codes "#x") None
+    (inline (text (codes "c")) no_inlines)) no_inlines))
+unfolding chars encode role_of table_role heading_or_block block_role inline_role element_role shown document_by
+    document_of_tree node_of percent_decode
+it_has_an_anchor = refl
+
+linked_document_is_common : common.is_common which.Linked (encoded linked_document) ≡ true
+unfolding chars encode role_of table_role heading_or_block block_role inline_role element_role shown document_by
+    document_of_tree node_of percent_decode utf8_lossy utf8_valid_len is_utf8
+linked_document_is_common = refl

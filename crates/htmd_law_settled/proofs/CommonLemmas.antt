@@ -1,40 +1,54 @@
--- What is neat and common is settled, and has no anchors.
-use Rattle.std.proofs.Common.{◌≡◌, ℕ, Bool, true, not, ◌&&◌, List, [], ◌∷◌, refl, sym, ap, ◌∙◌, subst}
+-- What is neat, plain and common is settled.
+use Rattle.std.proofs.Common.{Bool, false, ◌≡◌, ℕ, true, not, ◌&&◌, List, [], ◌∷◌, None, refl, sym, ap}
+use Rattle.std.proofs.Common.{◌∙◌, subst}
 use Rattle.std.specs.Prelude.{◌==◌, ◌||◌}
 use Rattle.std.specs.List.{list_all}
 use Rattle.std.specs.Str.{chars}
-use Rattle.std.proofs.lemmas.Bool.{and_from, and_parts, false≢true, eqb-true}
+use Rattle.std.proofs.lemmas.Bool.{and_from, and_parts, eqb-true}
 use Rattle.htmd_lexical.specs.Characters.{space}
 use Rattle.htmd_document.specs.Documents.{Inline, text, code, formatted, link, image, anchor, line_break, task}
 use Rattle.htmd_document.specs.Documents.{Inlines, no_inlines, inline, Block, paragraph, heading, code_block, quote}
 use Rattle.htmd_document.specs.Documents.{thematic_break, list, table, element, tags, Blocks, no_blocks, block}
-use Rattle.htmd_document.specs.Documents.{Items, no_items, item}
-use Rattle.htmd_law_rendering.specs.PlainReadings.{items_have_no_elements}
-use Rattle.htmd_law_returning.specs.NoAnchors.{has_no_anchors, have_no_anchors, block_has_no_anchors}
-use Rattle.htmd_law_returning.specs.NoAnchors.{blocks_have_no_anchors, items_have_no_anchors}
+use Rattle.htmd_document.specs.Documents.{Items, no_items, item, BlockAttribute}
+use Rattle.htmd_document.specs.declared.document.BlockElement.{BlockElement}
+use Rattle.htmd_document.specs.declared.document.BlockElement.TheVariants as an
 use Rattle.htmd_law_returning.specs.SettledDocuments.{are_away}
 use Rattle.htmd_law_returning.specs.SettledDocuments.{is_white_at_break}
-use Rattle.htmd_law_returning.specs.SettledDocuments.{is_right_list, shows_last_column, numbers_fit, is_light}
+use Rattle.htmd_law_returning.specs.SettledDocuments.{is_right_list, shows_last_column}
 use Rattle.htmd_law_returning.specs.SettledDocuments.{is_settled_inline, are_settled_inlines, is_settled_line}
 use Rattle.htmd_law_returning.specs.SettledDocuments.{is_settled_link, is_settled_block, is_settled_element}
-use Rattle.htmd_law_returning.specs.SettledDocuments.{are_settled_blocks, are_settled_items, are_settled}
+use Rattle.htmd_law_returning.specs.SettledDocuments.{are_settled_blocks, are_settled_items}
+use Rattle.htmd_law_returning.specs.SettledDocuments.{are_settled_in, stands_anywhere, may_stand_in, has_parts_alone}
+use Rattle.htmd_document.specs.declared.document.BlockElement.{BlockElement}
 use Rattle.htmd_law_returning.specs.WholeLines.{is_whole}
 use Rattle.htmd_law_returning.proofs.BoxLemmas.{characters-behind-space}
 use Rattle.htmd_shown.specs.ShownTexts.{is_shown}
+use Rattle.std.proofs.lemmas.Bool.{false≢true}
 use Rattle.htmd_law_settled.specs.Leaves.{is_inline_of, is_line_of, is_whole_line_of, is_block_of, are_blocks_of}
 use Rattle.htmd_law_settled.specs.Leaves.{are_items_of, are_cells_of}
+use Rattle.htmd_law_returning.specs.LastingAnchors.{all_keep}
+use Rattle.htmd_law_settled.specs.NeatLeaves.{any_id}
 use Rattle.htmd_law_settled.specs.BareBreaks.{is_bare_inside, has_bare_breaks}
-use Rattle.htmd_law_settled.specs.NeatLeaves.{neat, is_box_spaced, is_neat_line, is_neat_list}
-use Rattle.htmd_law_settled.specs.CommonDocuments.{is_common_inline, are_common_inlines}
+use Rattle.htmd_law_settled.specs.NeatLeaves.{neat, is_box_spaced, is_neat_line, has_neat_attributes}
+use Rattle.htmd_law_settled.specs.NeatLeaves.{is_neat_element}
+use Rattle.htmd_law_settled.proofs.PlainBlocks.{is_plain_inline, are_plain_inlines, is_plain_block, are_plain_blocks}
+use Rattle.htmd_law_settled.proofs.PlainBlocks.{are_plain_items, no-box}
+use Rattle.htmd_law_settled.specs.StandingElements.{Holder, in_flow, inside, is_mixed, stands_here, is_placed_block}
+use Rattle.htmd_law_settled.specs.StandingElements.{are_placed, are_placed_items}
 use Rattle.htmd_law_returning.specs.SettledDocuments.{behind_box, is_settled_paragraph}
-use Rattle.htmd_law_settled.specs.CommonDocuments.{is_common_block, are_common_blocks, are_common_items, is_common}
-use Rattle.htmd_law_settled.specs.CommonDocuments.{may_stand}
+use Rattle.htmd_law_settled.specs.CommonDocuments.{is_common_block, are_common_blocks, are_common_items}
+use Rattle.htmd_law_returning.specs.SettledTables.{is_border_at_most, are_rows_of_element, rows_in, takes_one_row}
+use Rattle.htmd_law_returning.specs.SettledTables.{are_of_cell, are_lean, is_settled_cell}
+use Rattle.htmd_law_settled.specs.NeatLeaves.{is_neat_cell, is_neat_table, are_single_cells, are_single_rows}
+use Rattle.htmd_law_settled.specs.CommonDocuments.{is_common_element}
+use Rattle.htmd_law_returning.specs.SettledDocuments.{has_no_attributes, has_filled_element, is_title}
+use Rattle.htmd_law_returning.specs.SettledDocuments.{are_in_figure, has_caption, is_caption}
 
 -- ---- settled
 
 mutual
   inline-settled : (x : Inline) → is_inline_of neat x ≡ true → is_bare_inside x ≡ true
-      → is_common_inline x ≡ true
+      → is_plain_inline x ≡ true
       → is_settled_inline x ≡ true
   inline-settled (text s) n b c = n
   inline-settled (code s) n b c = n
@@ -45,11 +59,11 @@ mutual
       and_from (is_settled_link address title) (are_settled_inlines content) m.0 (line-settled content m.1 b c)
   inline-settled (image address title description) n b c = n
   inline-settled line_break n b c = refl
-  inline-settled (anchor id) n b c = c
+  inline-settled (anchor id) n b c = refl
   inline-settled (task is_checked) n b c = c
 
   line-settled : (xs : Inlines) → is_line_of neat xs ≡ true → has_bare_breaks xs ≡ true
-      → are_common_inlines xs ≡ true
+      → are_plain_inlines xs ≡ true
       → are_settled_inlines xs ≡ true
   line-settled no_inlines n b c = refl
   line-settled (inline x xs) n b c =
@@ -57,7 +71,7 @@ mutual
       let bare = not (is_white_at_break x xs) in
       let p = and_parts (is_bare_inside x && bare) (has_bare_breaks xs) b in
       let q = and_parts (is_bare_inside x) bare p.0 in
-      let r = and_parts (is_common_inline x) (are_common_inlines xs) c in
+      let r = and_parts (is_plain_inline x) (are_plain_inlines xs) c in
       and_from (is_settled_inline x && bare) (are_settled_inlines xs)
       (and_from (is_settled_inline x) bare (inline-settled x m.0 q.0 r.0) q.1) (line-settled xs m.1 p.1 r.1)
 
@@ -82,196 +96,283 @@ line-behind (inline (task d) (inline (text (c ∷ b ∷ t)) xs)) n s =
 line-behind (inline (task d) (inline x xs)) n s = n
 line-behind (inline x xs) n s = n
 
-paragraph-settled : (xs : Inlines) → is_whole_line_of neat xs ≡ true → are_common_inlines (behind_box xs) ≡ true
+paragraph-settled : (xs : Inlines) → is_whole_line_of neat xs ≡ true → are_plain_inlines (behind_box xs) ≡ true
     → is_settled_paragraph xs ≡ true
 paragraph-settled xs n c =
     let ys : Inlines = behind_box xs in
     let m = and_parts (is_line_of neat xs) (is_neat_line xs) n in
-    let p = and_parts (is_box_spaced xs && is_whole ys) (has_bare_breaks ys) m.1 in
+    let o = and_parts (is_box_spaced xs && is_whole ys && has_bare_breaks ys) (all_keep any_id xs) m.1 in
+    let p = and_parts (is_box_spaced xs && is_whole ys) (has_bare_breaks ys) o.0 in
     let q = and_parts (is_box_spaced xs) (is_whole ys) p.0 in
     and_from (is_whole ys) (are_settled_inlines ys) q.1 (line-settled ys (line-behind xs m.0 q.0) p.1 c)
 
--- a common line has no tasks
-no-box : (xs : Inlines) → are_common_inlines xs ≡ true → behind_box xs ≡ xs
-no-box no_inlines c = refl
-no-box (inline (task d) xs) c = absurd (false≢true c)
-no-box (inline x xs) c = refl
-
-whole-settled : (xs : Inlines) → is_whole_line_of neat xs ≡ true → are_common_inlines xs ≡ true
+whole-settled : (xs : Inlines) → is_whole_line_of neat xs ≡ true → are_plain_inlines xs ≡ true
     → is_settled_line xs ≡ true
 whole-settled xs n c =
     subst (λ ys. is_settled_line ys ≡ true) (no-box xs c)
-    (paragraph-settled xs n (ap are_common_inlines (no-box xs c) ∙ c))
+    (paragraph-settled xs n (ap are_plain_inlines (no-box xs c) ∙ c))
 
 cells-settled : (cells : List Inlines) → are_cells_of neat cells ≡ true
-    → list_all are_common_inlines cells ≡ true
+    → list_all are_plain_inlines cells ≡ true
     → list_all is_settled_line cells ≡ true
 cells-settled [] n c = refl
 cells-settled (x ∷ xs) n c =
     let m = and_parts (is_whole_line_of neat x) (are_cells_of neat xs) n in
-    let p = and_parts (are_common_inlines x) (list_all are_common_inlines xs) c in
+    let p = and_parts (are_plain_inlines x) (list_all are_plain_inlines xs) c in
     and_from (is_settled_line x) (list_all is_settled_line xs) (whole-settled x m.0 p.0) (cells-settled xs m.1 p.1)
 
 rows-settled : (rows : List (List Inlines)) → list_all (are_cells_of neat) rows ≡ true
-    → list_all (list_all are_common_inlines) rows ≡ true → list_all (list_all is_settled_line) rows ≡ true
+    → list_all (list_all are_plain_inlines) rows ≡ true → list_all (list_all is_settled_line) rows ≡ true
 rows-settled [] n c = refl
 rows-settled (r ∷ rs) n c =
     let m = and_parts (are_cells_of neat r) (list_all (are_cells_of neat) rs) n in
-    let p = and_parts (list_all are_common_inlines r) (list_all (list_all are_common_inlines) rs) c in
+    let p = and_parts (list_all are_plain_inlines r) (list_all (list_all are_plain_inlines) rs) c in
     and_from (list_all is_settled_line r) (list_all (list_all is_settled_line) rs) (cells-settled r m.0 p.0)
     (rows-settled rs m.1 p.1)
 
 -- ---- blocks
 
-right-settled : (is_tight : Bool) (items : Items) → is_neat_list is_tight items ≡ true
-    → items_have_no_elements items ≡ true → is_right_list is_tight items ≡ true
-right-settled is_tight items n plain = sym (ap (λ b. not b || is_right_list is_tight items) plain) ∙ n
+no-attributes : (name : BlockElement) (attributes : List BlockAttribute)
+    → ((a : BlockAttribute) (rest : List BlockAttribute) → has_neat_attributes name (a ∷ rest) ≡ false)
+    → has_neat_attributes name attributes ≡ true → has_no_attributes attributes ≡ true
+no-attributes name [] none n = refl
+no-attributes name (a ∷ rest) none n = absurd (false≢true (sym (none a rest) ∙ n))
+
+border-settled : (attributes : List BlockAttribute) → has_neat_attributes an.Table attributes ≡ true
+    → is_border_at_most attributes ≡ true
+border-settled [] n = refl
+border-settled (a ∷ rest) n = n
+
+own-cell : (attributes : List BlockAttribute) → has_neat_attributes an.Cell attributes ≡ true
+    → is_neat_cell attributes ≡ true
+own-cell [] n = refl
+own-cell (a ∷ rest) n = n
+
+own-header : (attributes : List BlockAttribute) → has_neat_attributes an.HeaderCell attributes ≡ true
+    → is_neat_cell attributes ≡ true
+own-header [] n = refl
+own-header (a ∷ rest) n = n
+
+cell-settled : (attributes : List BlockAttribute) (content : Blocks) → is_neat_cell attributes ≡ true
+    → (takes_one_row attributes && are_lean content) ≡ true → is_settled_cell attributes content ≡ true
+cell-settled attributes content n c =
+    let p = and_parts (takes_one_row attributes) (are_lean content) c in
+    and_from (are_of_cell attributes && takes_one_row attributes) (are_lean content)
+    (and_from (are_of_cell attributes) (takes_one_row attributes)
+    (sym (ap (λ b. not b || are_of_cell attributes) p.0) ∙ n) p.0) p.1
+
+-- ---- where they stand
+
+anywhere : (name : BlockElement) → stands_here in_flow name ≡ true → stands_anywhere name ≡ true
+anywhere an.Details e = refl
+anywhere an.Figure e = refl
+anywhere an.Terms e = refl
+anywhere an.Table e = refl
+anywhere name e = absurd (false≢true e)
+
+-- so far captions of tables aren't common
+may-stand : (outer name : BlockElement) (attributes : List BlockAttribute) (content : Blocks)
+    → stands_here (inside outer) name ≡ true → is_common_element name attributes content ≡ true
+    → may_stand_in outer name ≡ true
+may-stand an.Details an.Summary attributes content e c = refl
+may-stand an.Figure an.FigureCaption attributes content e c = refl
+may-stand an.Terms an.Term attributes content e c = refl
+may-stand an.Terms an.Meaning attributes content e c = refl
+may-stand an.Table an.Caption attributes content e c = absurd (false≢true c)
+may-stand an.Table an.Row attributes content e c = refl
+may-stand an.Row an.Cell attributes content e c = refl
+may-stand an.Row an.HeaderCell attributes content e c = refl
+may-stand an.Terms name attributes content e c = absurd (false≢true e)
+may-stand an.Table name attributes content e c = absurd (false≢true e)
+may-stand an.Row name attributes content e c = absurd (false≢true e)
+may-stand outer an.Details attributes content e c = refl
+may-stand outer an.Figure attributes content e c = refl
+may-stand outer an.Terms attributes content e c = refl
+may-stand outer an.Table attributes content e c = refl
+may-stand outer name attributes content e c = absurd (false≢true e)
+
+free : (outer : BlockElement) → is_mixed (inside outer) ≡ true → not (has_parts_alone outer) ≡ true
+free an.Terms e = absurd (false≢true e)
+free an.Table e = absurd (false≢true e)
+free an.Row e = absurd (false≢true e)
+free outer e = refl
+
+abbrev is_element : Block → Bool
+is_element (element name attributes content) = true
+is_element b = false
+
+-- what is no element stands where anything does
+other-placed : (o : Holder) (b : Block) → is_element b ≡ false → is_placed_block o b ≡ true
+    → (is_mixed o ≡ true) × (is_placed_block in_flow b ≡ true)
+other-placed o (element name attributes content) e h = absurd (false≢true (sym e))
+other-placed o (quote content) e h = and_parts (is_mixed o) (are_placed in_flow content) h
+other-placed o (list start is_tight items) e h = and_parts (is_mixed o) (are_placed_items items) h
+other-placed o b e h = (h, refl)
+
+-- ---- rows of cells that are common take one row each
+
+single-cell : (name : BlockElement) (attributes : List BlockAttribute) (content : Blocks)
+    → stands_here (inside an.Row) name ≡ true → is_common_element name attributes content ≡ true
+    → takes_one_row attributes ≡ true
+single-cell an.Cell attributes content e c = (and_parts (takes_one_row attributes) (are_lean content) c).0
+single-cell an.HeaderCell attributes content e c = (and_parts (takes_one_row attributes) (are_lean content) c).0
+single-cell name attributes content e c = absurd (false≢true e)
+
+single-cells : (bs : Blocks) → are_placed (inside an.Row) bs ≡ true → are_common_blocks bs ≡ true
+    → are_single_cells bs ≡ true
+single-cells no_blocks s c = refl
+single-cells (block (element name attributes content) bs) s c =
+    let o = inside an.Row in
+    let is_common = is_common_element name attributes content in
+    let r = and_parts (is_common && are_common_blocks content) (are_common_blocks bs) c in
+    let u = and_parts (stands_here o name && are_placed (inside name) content) (are_placed o bs) s in
+    and_from (takes_one_row attributes) (are_single_cells bs)
+    (single-cell name attributes content (and_parts (stands_here o name) (are_placed (inside name) content) u.0).0
+    (and_parts is_common (are_common_blocks content) r.0).0) (single-cells bs u.1 r.1)
+single-cells (block b bs) s c =
+    let o = inside an.Row in
+    absurd (false≢true (other-placed o b refl (and_parts (is_placed_block o b) (are_placed o bs) s).0).0)
+
+single-row : (name : BlockElement) (attributes : List BlockAttribute) (content bs : Blocks)
+    → stands_here (inside an.Table) name ≡ true → is_common_element name attributes content ≡ true
+    → are_placed (inside name) content ≡ true → are_common_blocks content ≡ true → are_single_rows bs ≡ true
+    → are_single_rows (block (element name attributes content) bs) ≡ true
+single-row an.Row attributes content bs e c s d rest =
+    and_from (are_single_cells content) (are_single_rows bs) (single-cells content s d) rest
+single-row an.Caption attributes content bs e c s d rest = absurd (false≢true c)
+single-row name attributes content bs e c s d rest = absurd (false≢true e)
+
+single-rows : (bs : Blocks) → are_placed (inside an.Table) bs ≡ true → are_common_blocks bs ≡ true
+    → are_single_rows bs ≡ true
+single-rows no_blocks s c = refl
+single-rows (block (element name attributes content) bs) s c =
+    let o = inside an.Table in
+    let is_common = is_common_element name attributes content in
+    let r = and_parts (is_common && are_common_blocks content) (are_common_blocks bs) c in
+    let t = and_parts is_common (are_common_blocks content) r.0 in
+    let u = and_parts (stands_here o name && are_placed (inside name) content) (are_placed o bs) s in
+    let v = and_parts (stands_here o name) (are_placed (inside name) content) u.0 in
+    single-row name attributes content bs v.0 t.0 v.1 t.1 (single-rows bs u.1 r.1)
+single-rows (block b bs) s c =
+    let o = inside an.Table in
+    absurd (false≢true (other-placed o b refl (and_parts (is_placed_block o b) (are_placed o bs) s).0).0)
+
+element-settled : (name : BlockElement) (attributes : List BlockAttribute) (content : Blocks)
+    → is_neat_element name attributes content ≡ true → is_common_element name attributes content ≡ true
+    → are_placed (inside name) content ≡ true → are_common_blocks content ≡ true
+    → is_settled_element name attributes content ≡ true
+element-settled an.Details [] content n c s d = refl
+element-settled an.Details (a ∷ rest) content n c s d = n
+element-settled an.Summary attributes content n c s d =
+    and_from (has_no_attributes attributes) (is_title content)
+    (no-attributes an.Summary attributes (λ a rest. refl) n) c
+element-settled an.Terms attributes content n c s d =
+    let p = and_parts (has_neat_attributes an.Terms attributes) (has_filled_element content) n in
+    and_from (has_no_attributes attributes) (has_filled_element content)
+    (no-attributes an.Terms attributes (λ a rest. refl) p.0) p.1
+element-settled an.Term attributes content n c s d =
+    and_from (has_no_attributes attributes) (is_title content)
+    (no-attributes an.Term attributes (λ a rest. refl) n) c
+element-settled an.Meaning attributes content n c s d = no-attributes an.Meaning attributes (λ a rest. refl) n
+element-settled an.Figure attributes content n c s d =
+    let p = and_parts (has_neat_attributes an.Figure attributes) (has_caption content) n in
+    and_from (has_no_attributes attributes) (are_in_figure content && has_caption content)
+    (no-attributes an.Figure attributes (λ a rest. refl) p.0)
+    (and_from (are_in_figure content) (has_caption content) c p.1)
+element-settled an.FigureCaption attributes content n c s d =
+    and_from (has_no_attributes attributes) (is_caption content)
+    (no-attributes an.FigureCaption attributes (λ a rest. refl) n) c
+element-settled an.Table attributes content n c s d =
+    let p = and_parts (has_neat_attributes an.Table attributes) (is_neat_table attributes content) n in
+    let is_so = are_rows_of_element attributes (rows_in None content) in
+    and_from (is_border_at_most attributes) is_so (border-settled attributes p.0)
+    (sym (ap (λ b. not b || is_so) (single-rows content s d)) ∙ p.1)
+element-settled an.Row attributes content n c s d = no-attributes an.Row attributes (λ a rest. refl) n
+element-settled an.Cell attributes content n c s d = cell-settled attributes content (own-cell attributes n) c
+element-settled an.HeaderCell attributes content n c s d = cell-settled attributes content (own-header attributes n) c
+element-settled name attributes content n c s d = absurd (false≢true c)
 
 mutual
-  block-settled : (b : Block) → is_block_of neat b ≡ true → is_common_block b ≡ true
-      → is_settled_block b ≡ true
-  block-settled (paragraph content) n c = paragraph-settled content n c
-  block-settled (heading level content) n c =
-      let p = and_parts (are_common_inlines content) (are_away content) c in
-      and_from (is_settled_line content) (are_away content) (whole-settled content n p.0) p.1
-  block-settled (code_block language s) n c = n
-  block-settled (quote content) n c = blocks-settled content n c
-  block-settled thematic_break n c = refl
-  block-settled (list start is_tight items) n c =
-      let right = is_right_list is_tight items in
-      let m = and_parts (is_neat_list is_tight items) (are_items_of neat items) n in
-      let p = and_parts (are_common_items items) (items_have_no_elements items) c in
-      and_from (right && are_settled_items items) (items_have_no_elements items)
-      (and_from right (are_settled_items items) (right-settled is_tight items m.0 p.1) (items-settled items m.1 p.0))
-      p.1
-  block-settled (table alignments header rows) n c =
+  block-settled : (b : Block) → is_block_of neat b ≡ true → is_plain_block b ≡ true
+      → is_placed_block in_flow b ≡ true → is_common_block b ≡ true → is_settled_block b ≡ true
+  block-settled (paragraph content) n p s c = paragraph-settled content n p
+  block-settled (heading level content) n p s c =
+      and_from (is_settled_line content) (are_away content) (whole-settled content n p) c
+  block-settled (code_block language t) n p s c = n
+  block-settled (quote content) n p s c = blocks-settled content n p s c
+  block-settled thematic_break n p s c = refl
+  block-settled (list start is_tight items) n p s c =
+      let m = and_parts (is_right_list is_tight items) (are_items_of neat items) n in
+      and_from (is_right_list is_tight items) (are_settled_items items) m.0 (items-settled items m.1 p s c)
+  block-settled (table alignments header rows) n p s c =
       let m = and_parts (shows_last_column header rows) (are_cells_of neat header && list_all (are_cells_of neat) rows)
       n in
       let l = and_parts (are_cells_of neat header) (list_all (are_cells_of neat) rows) m.1 in
-      let p = and_parts (list_all are_common_inlines header) (list_all (list_all are_common_inlines) rows) c in
+      let q = and_parts (list_all are_plain_inlines header) (list_all (list_all are_plain_inlines) rows) p in
       and_from (list_all is_settled_line header && list_all (list_all is_settled_line) rows)
       (shows_last_column header rows)
       (and_from (list_all is_settled_line header) (list_all (list_all is_settled_line) rows)
-      (cells-settled header l.0 p.0) (rows-settled rows l.1 p.1)) m.0
-  block-settled (element name attributes content) n c =
-      let p = and_parts (is_settled_element name attributes content) (are_common_blocks content) c in
-      and_from (is_settled_element name attributes content) (are_settled_blocks content) p.0
-      (blocks-settled content n p.1)
-  block-settled (tags s) n c = c
+      (cells-settled header l.0 q.0) (rows-settled rows l.1 q.1)) m.0
+  block-settled (element name attributes content) n p s c =
+      let m = and_parts (is_neat_element name attributes content) (are_blocks_of neat content) n in
+      let r = and_parts (stands_here in_flow name) (are_placed (inside name) content) s in
+      let q = and_parts (is_common_element name attributes content) (are_common_blocks content) c in
+      and_from (stands_anywhere name && is_settled_element name attributes content) (are_settled_in name content)
+      (and_from (stands_anywhere name) (is_settled_element name attributes content) (anywhere name r.0)
+      (element-settled name attributes content m.0 q.0 r.1 q.1)) (parts-settled name content m.1 p r.1 q.1)
+  block-settled (tags t) n p s c = p
 
-  blocks-settled : (bs : Blocks) → are_blocks_of neat bs ≡ true → are_common_blocks bs ≡ true
-      → are_settled_blocks bs ≡ true
-  blocks-settled no_blocks n c = refl
-  blocks-settled (block b bs) n c =
+  parts-settled : (outer : BlockElement) (bs : Blocks) → are_blocks_of neat bs ≡ true
+      → are_plain_blocks bs ≡ true
+      → are_placed (inside outer) bs ≡ true → are_common_blocks bs ≡ true → are_settled_in outer bs ≡ true
+  parts-settled outer no_blocks n p s c = refl
+  parts-settled outer (block (element name attributes content) bs) n p s c =
+      let o = inside outer in
+      let is_common = is_common_element name attributes content in
+      let is_settled = is_settled_element name attributes content in
+      let is_placed = stands_here o name && are_placed (inside name) content in
+      let m = and_parts (is_block_of neat (element name attributes content)) (are_blocks_of neat bs) n in
+      let k = and_parts (is_neat_element name attributes content) (are_blocks_of neat content) m.0 in
+      let q = and_parts (are_plain_blocks content) (are_plain_blocks bs) p in
+      let r = and_parts (is_common && are_common_blocks content) (are_common_blocks bs) c in
+      let t = and_parts is_common (are_common_blocks content) r.0 in
+      let u = and_parts is_placed (are_placed o bs) s in
+      let v = and_parts (stands_here o name) (are_placed (inside name) content) u.0 in
+      and_from ((may_stand_in outer name && is_settled) && are_settled_in name content) (are_settled_in outer bs)
+      (and_from (may_stand_in outer name && is_settled) (are_settled_in name content)
+      (and_from (may_stand_in outer name) is_settled (may-stand outer name attributes content v.0 t.0)
+      (element-settled name attributes content k.0 t.0 v.1 t.1))
+      (parts-settled name content k.1 q.0 v.1 t.1)) (parts-settled outer bs m.1 q.1 u.1 r.1)
+  parts-settled outer (block b bs) n p s c =
+      let o = inside outer in
+      let is_free = not (has_parts_alone outer) in
       let m = and_parts (is_block_of neat b) (are_blocks_of neat bs) n in
-      let p = and_parts (is_common_block b) (are_common_blocks bs) c in
-      and_from (is_settled_block b) (are_settled_blocks bs) (block-settled b m.0 p.0) (blocks-settled bs m.1 p.1)
+      let q = and_parts (is_plain_block b) (are_plain_blocks bs) p in
+      let r = and_parts (is_common_block b) (are_common_blocks bs) c in
+      let u = and_parts (is_placed_block o b) (are_placed o bs) s in
+      let v = other-placed o b refl u.0 in
+      and_from (is_free && is_settled_block b) (are_settled_in outer bs)
+      (and_from is_free (is_settled_block b) (free outer v.0) (block-settled b m.0 q.0 v.1 r.0))
+      (parts-settled outer bs m.1 q.1 u.1 r.1)
 
-  items-settled : (items : Items) → are_items_of neat items ≡ true → are_common_items items ≡ true
-      → are_settled_items items ≡ true
-  items-settled no_items n c = refl
-  items-settled (item bs items) n c =
+  pub blocks-settled : (bs : Blocks) → are_blocks_of neat bs ≡ true → are_plain_blocks bs ≡ true
+      → are_placed in_flow bs ≡ true → are_common_blocks bs ≡ true → are_settled_blocks bs ≡ true
+  blocks-settled no_blocks n p s c = refl
+  blocks-settled (block b bs) n p s c =
+      let m = and_parts (is_block_of neat b) (are_blocks_of neat bs) n in
+      let q = and_parts (is_plain_block b) (are_plain_blocks bs) p in
+      let t = and_parts (is_placed_block in_flow b) (are_placed in_flow bs) s in
+      let r = and_parts (is_common_block b) (are_common_blocks bs) c in
+      and_from (is_settled_block b) (are_settled_blocks bs) (block-settled b m.0 q.0 t.0 r.0)
+      (blocks-settled bs m.1 q.1 t.1 r.1)
+
+  items-settled : (items : Items) → are_items_of neat items ≡ true → are_plain_items items ≡ true
+      → are_placed_items items ≡ true → are_common_items items ≡ true → are_settled_items items ≡ true
+  items-settled no_items n p s c = refl
+  items-settled (item bs items) n p s c =
       let m = and_parts (are_blocks_of neat bs) (are_items_of neat items) n in
-      let p = and_parts (are_common_blocks bs) (are_common_items items) c in
-      and_from (are_settled_blocks bs) (are_settled_items items) (blocks-settled bs m.0 p.0)
-      (items-settled items m.1 p.1)
-
-pub common-settled : (d : Blocks) → are_blocks_of neat d ≡ true → numbers_fit 0 d ≡ true
-    → is_common d ≡ true
-    → are_settled d ≡ true
-common-settled d n f c =
-    let p = and_parts (are_common_blocks d && may_stand d) (is_light d) c in
-    let q = and_parts (are_common_blocks d) (may_stand d) p.0 in
-    and_from (are_settled_blocks d && numbers_fit 0 d) (is_light d)
-    (and_from (are_settled_blocks d) (numbers_fit 0 d) (blocks-settled d n q.0) f) p.1
-
--- ---- anchors
-
-mutual
-  inline-anchorless : (x : Inline) → is_common_inline x ≡ true → has_no_anchors x ≡ true
-  inline-anchorless (text s) c = refl
-  inline-anchorless (code s) c = refl
-  inline-anchorless (formatted f content) c = line-anchorless content c
-  inline-anchorless (link address title content) c = line-anchorless content c
-  inline-anchorless (image address title description) c = refl
-  inline-anchorless line_break c = refl
-  inline-anchorless (anchor id) c = c
-  inline-anchorless (task is_checked) c = refl
-
-  line-anchorless : (xs : Inlines) → are_common_inlines xs ≡ true → have_no_anchors xs ≡ true
-  line-anchorless no_inlines c = refl
-  line-anchorless (inline x xs) c =
-      let p = and_parts (is_common_inline x) (are_common_inlines xs) c in
-      and_from (has_no_anchors x) (have_no_anchors xs) (inline-anchorless x p.0) (line-anchorless xs p.1)
-
-cells-anchorless : (cells : List Inlines) → list_all are_common_inlines cells ≡ true
-    → list_all have_no_anchors cells ≡ true
-cells-anchorless [] c = refl
-cells-anchorless (x ∷ xs) c =
-    let p = and_parts (are_common_inlines x) (list_all are_common_inlines xs) c in
-    and_from (have_no_anchors x) (list_all have_no_anchors xs) (line-anchorless x p.0) (cells-anchorless xs p.1)
-
-rows-anchorless : (rows : List (List Inlines)) → list_all (list_all are_common_inlines) rows ≡ true
-    → list_all (list_all have_no_anchors) rows ≡ true
-rows-anchorless [] c = refl
-rows-anchorless (r ∷ rs) c =
-    let p = and_parts (list_all are_common_inlines r) (list_all (list_all are_common_inlines) rs) c in
-    and_from (list_all have_no_anchors r) (list_all (list_all have_no_anchors) rs) (cells-anchorless r p.0)
-    (rows-anchorless rs p.1)
-
--- behind the box of a task, and so with it
-box-anchorless : (d : Bool) (xs : Inlines) → have_no_anchors (behind_box (inline (task d) xs)) ≡ true
-    → have_no_anchors xs ≡ true
-box-anchorless d no_inlines h = refl
-box-anchorless d (inline (text []) xs) h = h
-box-anchorless d (inline (text (c ∷ [])) xs) h = h
-box-anchorless d (inline (text (c ∷ b ∷ s)) xs) h = h
-box-anchorless d (inline (code s) xs) h = h
-box-anchorless d (inline (formatted f content) xs) h = h
-box-anchorless d (inline (link address title content) xs) h = h
-box-anchorless d (inline (image address title description) xs) h = h
-box-anchorless d (inline (anchor id) xs) h = h
-box-anchorless d (inline line_break xs) h = h
-box-anchorless d (inline (task e) xs) h = h
-
-paragraph-anchorless : (xs : Inlines) → are_common_inlines (behind_box xs) ≡ true → have_no_anchors xs ≡ true
-paragraph-anchorless no_inlines c = refl
-paragraph-anchorless (inline (task d) xs) c =
-    box-anchorless d xs (line-anchorless (behind_box (inline (task d) xs)) c)
-paragraph-anchorless (inline x xs) c = line-anchorless (inline x xs) c
-
-mutual
-  block-anchorless : (b : Block) → is_common_block b ≡ true → block_has_no_anchors b ≡ true
-  block-anchorless (paragraph content) c = paragraph-anchorless content c
-  block-anchorless (heading level content) c =
-      line-anchorless content (and_parts (are_common_inlines content) (are_away content) c).0
-  block-anchorless (code_block language s) c = refl
-  block-anchorless (quote content) c = blocks-anchorless content c
-  block-anchorless thematic_break c = refl
-  block-anchorless (list start is_tight items) c =
-      items-anchorless items (and_parts (are_common_items items) (items_have_no_elements items) c).0
-  block-anchorless (table alignments header rows) c =
-      let p = and_parts (list_all are_common_inlines header) (list_all (list_all are_common_inlines) rows) c in
-      and_from (list_all have_no_anchors header) (list_all (list_all have_no_anchors) rows)
-      (cells-anchorless header p.0) (rows-anchorless rows p.1)
-  block-anchorless (element name attributes content) c =
-      blocks-anchorless content (and_parts (is_settled_element name attributes content) (are_common_blocks content) c).1
-  block-anchorless (tags s) c = absurd (false≢true c)
-
-  blocks-anchorless : (bs : Blocks) → are_common_blocks bs ≡ true → blocks_have_no_anchors bs ≡ true
-  blocks-anchorless no_blocks c = refl
-  blocks-anchorless (block b bs) c =
-      let p = and_parts (is_common_block b) (are_common_blocks bs) c in
-      and_from (block_has_no_anchors b) (blocks_have_no_anchors bs) (block-anchorless b p.0) (blocks-anchorless bs p.1)
-
-  items-anchorless : (items : Items) → are_common_items items ≡ true → items_have_no_anchors items ≡ true
-  items-anchorless no_items c = refl
-  items-anchorless (item bs items) c =
-      let p = and_parts (are_common_blocks bs) (are_common_items items) c in
-      and_from (blocks_have_no_anchors bs) (items_have_no_anchors items) (blocks-anchorless bs p.0)
-      (items-anchorless items p.1)
-
-pub common-anchorless : (d : Blocks) → is_common d ≡ true → blocks_have_no_anchors d ≡ true
-common-anchorless d c =
-    let p = and_parts (are_common_blocks d && may_stand d) (is_light d) c in
-    blocks-anchorless d (and_parts (are_common_blocks d) (may_stand d) p.0).0
+      let q = and_parts (are_plain_blocks bs) (are_plain_items items) p in
+      let t = and_parts (are_placed in_flow bs) (are_placed_items items) s in
+      let r = and_parts (are_common_blocks bs) (are_common_items items) c in
+      and_from (are_settled_blocks bs) (are_settled_items items) (blocks-settled bs m.0 q.0 t.0 r.0)
+      (items-settled items m.1 q.1 t.1 r.1)

@@ -1,29 +1,42 @@
 -- A document with its addresses encoded: its leaves, its lines, and its lists.
-use Rattle.std.proofs.Common.{◌≡◌, ℕ, suc, Bool, true, false, ◌&&◌, List, [], ◌∷◌, map, refl, ap, ◌∙◌}
+use Rattle.std.proofs.Common.{◌≡◌, ℕ, suc, Bool, true, false, ◌&&◌, List, [], ◌∷◌, map, refl, sym, ap, ◌∙◌}
+use Rattle.std.specs.Prelude.{◌||◌, if◌then◌else◌}
 use Rattle.std.specs.List.{list_all}
 use Rattle.std.proofs.lemmas.Bool.{and_parts}
-use Rattle.htmd_document.specs.Documents.{Inline, text, formatted, link, image, line_break, task}
+use Rattle.htmd_document.specs.Documents.{Inline, text, formatted, link, image, anchor, line_break, task}
 use Rattle.htmd_document.specs.Documents.{Inlines, no_inlines, inline, Block, paragraph, heading, code_block, quote}
 use Rattle.htmd_document.specs.Documents.{thematic_break, list, table, element, tags, Blocks, no_blocks, block}
-use Rattle.htmd_document.specs.Documents.{Items, no_items, item}
+use Rattle.htmd_document.specs.Documents.{Items, no_items, item, BlockAttribute}
+use Rattle.htmd_document.specs.declared.document.BlockElement.{BlockElement}
+use Rattle.htmd_document.specs.declared.document.BlockElement.TheVariants as an
+use Rattle.htmd_document.specs.FlatDocuments.{flattened}
+use Rattle.htmd_document.specs.TightItems.{is_tight_item}
 use Rattle.htmd_law_rendering.specs.RenderedTrees.{encoded_address}
 use Rattle.htmd_law_returning.specs.EncodedDocuments.{changed_inline, changed_inlines, changed_cells, changed_block}
 use Rattle.htmd_law_returning.specs.EncodedDocuments.{changed, changed_items, encoded}
 use Rattle.htmd_law_returning.specs.NoAnchors.{has_no_anchors, have_no_anchors, block_has_no_anchors}
 use Rattle.htmd_law_returning.specs.NoAnchors.{blocks_have_no_anchors, items_have_no_anchors}
+use Rattle.htmd_law_returning.specs.SettledDocuments.{is_filled_element, has_filled_element, is_of_figure, has_caption}
 use Rattle.htmd_law_returning.specs.SettledDocuments.{is_white_at_break, show_loose, is_right_list, are_tight_items}
 use Rattle.htmd_law_returning.specs.SettledDocuments.{stay_tight, shows_last_column, behind_box}
 use Rattle.htmd_law_returning.specs.SettledDocuments.{is_settled_address, is_settled_title, is_one_line}
 use Rattle.htmd_law_returning.specs.SettledDocuments.{block_numbers_fit, numbers_fit, item_numbers_fit}
+use Rattle.htmd_document.specs.NormalInlines.{is_anchor}
+use Rattle.htmd_law_returning.specs.LastingAnchors.{past_gaps, goes_on}
 use Rattle.htmd_law_returning.specs.WholeLines.{begins_white, ends_white, is_gap, is_same_around, is_apart}
 use Rattle.htmd_law_returning.specs.WholeLines.{is_whole_inside, are_whole_inside}
 use Rattle.htmd_law_returning.proofs.AddressLemmas.{encoded-stays}
+use Rattle.htmd_law_returning.proofs.ChangedLemmas.{filled-same}
 use Rattle.htmd_law_returning.proofs.ChangedLemmas.{tight-item-same, holds-same, count-same, columns-same}
-use Rattle.htmd_law_returning.proofs.ChangedLemmas.{item-elements}
+use Rattle.htmd_law_returning.proofs.FlatLemmas.{flat-changed}
+use Rattle.htmd_law_returning.specs.LastingAnchors.{inline_keeps, all_keep}
+use Rattle.htmd_law_settled.specs.NeatLeaves.{any_id}
+use Rattle.htmd_law_settled.proofs.EncodedTables.{neat-table}
 use Rattle.htmd_law_settled.specs.BareBreaks.{is_bare_inside, has_bare_breaks}
 use Rattle.htmd_law_settled.specs.Leaves.{Leaves, is_inline_of, is_line_of, is_whole_line_of, are_cells_of, is_block_of}
 use Rattle.htmd_law_settled.specs.Leaves.{are_blocks_of, are_items_of}
-use Rattle.htmd_law_settled.specs.NeatLeaves.{neat, is_neat_list, is_box_spaced, is_neat_line}
+use Rattle.htmd_law_settled.specs.NeatLeaves.{neat, is_box_spaced, is_neat_line, is_neat_element}
+use Rattle.htmd_law_settled.specs.NeatLeaves.{has_neat_attributes}
 
 module _ (change : List ℕ → List ℕ) where
   -- ---- lines
@@ -104,10 +117,86 @@ module _ (change : List ℕ → List ℕ) where
   spaced-same (inline (task d) (inline x xs)) = refl
   spaced-same (inline x xs) = refl
 
+  -- what shows next is the same
+  on-same : (v : Inline) (xs : Inlines)
+      → goes_on (changed_inline change v) (past_gaps (changed_inlines change xs)) ≡ goes_on v (past_gaps xs)
+  on-same v no_inlines = refl
+  on-same v (inline x xs) =
+      ap (λ b. goes_on (changed_inline change v)
+      (if b then past_gaps (changed_inlines change xs) else changed_inlines change (inline x xs))) (passed-same x)
+      ∙ by (is_gap x || is_anchor x) (on-same v xs)
+    where
+      passed-same : (x : Inline) → (is_gap (changed_inline change x) || is_anchor (changed_inline change x))
+          ≡ (is_gap x || is_anchor x)
+      passed-same (text s) = refl
+      passed-same line_break = refl
+      passed-same (anchor id) = refl
+      passed-same x = refl
+
+      by : (b : Bool)
+          → goes_on (changed_inline change v) (past_gaps (changed_inlines change xs)) ≡ goes_on v (past_gaps xs)
+          → goes_on (changed_inline change v)
+          (if b then past_gaps (changed_inlines change xs) else changed_inlines change (inline x xs))
+          ≡ goes_on v (if b then past_gaps xs else inline x xs)
+      by true e = e
+      by false e = around-same v x
+
+  anchor-same : (x : Inline) → is_anchor (changed_inline change x) ≡ is_anchor x
+  anchor-same (anchor id) = refl
+  anchor-same x = refl
+
+  mutual
+    kept-inside : (x : Inline) → inline_keeps any_id (changed_inline change x) ≡ inline_keeps any_id x
+    kept-inside (formatted f c) = kept-same c
+    kept-inside (link a t c) = kept-same c
+    kept-inside x = refl
+
+    kept-same : (xs : Inlines) → all_keep any_id (changed_inlines change xs) ≡ all_keep any_id xs
+    kept-same no_inlines = refl
+    kept-same (inline x xs) =
+        rw (kept-inside x, anchor-same x, begins-same xs, on-same x xs, kept-same xs) refl
+
   neat-line : (xs : Inlines) → is_neat_line (changed_inlines change xs) ≡ is_neat_line xs
   neat-line xs =
       let ys : Inlines = behind_box xs in
-      rw (spaced-same xs, behind-same xs, insides-same ys, begins-same ys, ends-same ys, bare-same ys) refl
+      rw (
+        spaced-same xs,
+        behind-same xs,
+        insides-same ys,
+        begins-same ys,
+        ends-same ys,
+        bare-same ys,
+        kept-same xs,
+      ) refl
+
+  -- ---- elements
+
+  element-filled : (b : Block) → is_filled_element (changed_block change b) ≡ is_filled_element b
+  element-filled (element name attributes bs) = filled-same change bs
+  element-filled b = refl
+
+  some-filled : (bs : Blocks) → has_filled_element (changed change bs) ≡ has_filled_element bs
+  some-filled no_blocks = refl
+  some-filled (block b bs) = rw (element-filled b, some-filled bs) refl
+
+  caption-same : (b : Block) → is_of_figure (changed_block change b) ≡ is_of_figure b
+  caption-same (element an.FigureCaption attributes bs) = refl
+  caption-same (element name attributes bs) = refl
+  caption-same b = refl
+
+  some-caption : (bs : Blocks) → has_caption (changed change bs) ≡ has_caption bs
+  some-caption no_blocks = refl
+  some-caption (block b bs) = rw (caption-same b, some-caption bs) refl
+
+  neat-element : (name : BlockElement) (attributes : List BlockAttribute) (bs : Blocks)
+      → is_neat_element name attributes (changed change bs) ≡ is_neat_element name attributes bs
+  neat-element an.Terms attributes bs = ap (λ b. has_neat_attributes an.Terms attributes && b) (some-filled bs)
+  neat-element an.Figure attributes bs = ap (λ b. has_neat_attributes an.Figure attributes && b) (some-caption bs)
+  neat-element an.Table attributes bs =
+      ap (λ b. has_neat_attributes an.Table attributes && b) (neat-table change attributes bs)
+  neat-element name attributes bs = refl
+
+  -- ---- anchors
 
   mutual
     no-anchors : (x : Inline) → has_no_anchors (changed_inline change x) ≡ has_no_anchors x
@@ -151,13 +240,16 @@ module _ (change : List ℕ → List ℕ) where
 
   -- ---- lists
 
+  flat-tight : (bs : Blocks) → is_tight_item (flattened (changed change bs)) ≡ is_tight_item (flattened bs)
+  flat-tight bs = ap is_tight_item (sym (flat-changed change bs)) ∙ tight-item-same change (flattened bs)
+
   show-same : (items : Items) → show_loose (changed_items change items) ≡ show_loose items
   show-same no_items = refl
-  show-same (item bs rest) = rw (holds-same change bs, tight-item-same change bs, show-same rest) refl
+  show-same (item bs rest) = rw (holds-same change bs, flat-tight bs, show-same rest) refl
 
   tight-same : (items : Items) → are_tight_items (changed_items change items) ≡ are_tight_items items
   tight-same no_items = refl
-  tight-same (item bs rest) = rw (tight-item-same change bs, tight-same rest) refl
+  tight-same (item bs rest) = rw (flat-tight bs, tight-same rest) refl
 
   stay-same : (items : Items) → stay_tight (changed_items change items) ≡ stay_tight items
   stay-same no_items = refl
@@ -168,10 +260,6 @@ module _ (change : List ℕ → List ℕ) where
       → is_right_list is_tight (changed_items change items) ≡ is_right_list is_tight items
   right-same true items = stay-same items
   right-same false items = show-same items
-
-  neat-list : (is_tight : Bool) (items : Items)
-      → is_neat_list is_tight (changed_items change items) ≡ is_neat_list is_tight items
-  neat-list is_tight items = rw (item-elements change items, right-same is_tight items) refl
 
   mutual
     block-fits : (n : ℕ) (b : Block) → block_numbers_fit n (changed_block change b) ≡ block_numbers_fit n b
@@ -236,10 +324,11 @@ mutual
   block-leaves (quote bs) = leaves-encoded bs
   block-leaves thematic_break = refl
   block-leaves (list start is_tight items) =
-      rw (neat-list encoded_address is_tight items, item-leaves items) refl
+      rw (right-same encoded_address is_tight items, item-leaves items) refl
   block-leaves (table alignments header rows) =
       rw (columns-same encoded_address header rows, cell-leaves header, row-leaves rows) refl
-  block-leaves (element name attributes bs) = leaves-encoded bs
+  block-leaves (element name attributes bs) =
+      rw (neat-element encoded_address name attributes bs, leaves-encoded bs) refl
   block-leaves (tags s) = refl
 
   pub leaves-encoded : (bs : Blocks) → are_blocks_of neat (encoded bs) ≡ are_blocks_of (encoding neat) bs
@@ -300,14 +389,16 @@ mutual
   block-stays thematic_break h = refl
   block-stays (list start is_tight items) h =
       ap (list start is_tight)
-      (items-stay items (and_parts (is_neat_list is_tight items) (are_items_of neat items) h).1)
+      (items-stay items (and_parts (is_right_list is_tight items) (are_items_of neat items) h).1)
   block-stays (table alignments header rows) h =
       let q = and_parts (shows_last_column header rows)
       (are_cells_of neat header && list_all (are_cells_of neat) rows) h in
       let p = and_parts (are_cells_of neat header) (list_all (are_cells_of neat) rows) q.1 in
       ap (λ y. table alignments y (map (changed_cells encoded_address) rows)) (cells-stay header p.0)
       ∙ ap (table alignments header) (rows-stay rows p.1)
-  block-stays (element name attributes bs) h = ap (element name attributes) (neat-stays bs h)
+  block-stays (element name attributes bs) h =
+      ap (element name attributes)
+      (neat-stays bs (and_parts (is_neat_element name attributes bs) (are_blocks_of neat bs) h).1)
   block-stays (tags s) h = refl
 
   pub neat-stays : (bs : Blocks) → are_blocks_of neat bs ≡ true → encoded bs ≡ bs

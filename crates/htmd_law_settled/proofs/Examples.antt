@@ -1,16 +1,21 @@
 -- What is neat, and what isn't.
 use Rattle.std.proofs.Common.{◌≡◌, true, false, [], ◌∷◌, ◌++◌, refl, Some, None}
+use Rattle.std.specs.Fmt.{digits}
 use Rattle.std.specs.Prelude.{codes, ℕ, zero, suc}
 use Rattle.std.specs.Str.{chars, is_utf8}
 use Rattle.htmd_document.specs.Formats.{Strong}
 use Rattle.htmd_document.specs.declared.document.Alignment.TheVariants as align
+use Rattle.htmd_document.specs.Documents.{BlockAttribute}
+use Rattle.htmd_document.specs.declared.document.AttributeName.TheVariants as attribute
+use Rattle.htmd_document.specs.declared.document.BlockElement.TheVariants as name
 use Rattle.htmd_document.specs.Documents.{text, code, formatted, image, line_break, Inlines, no_inlines, inline}
 use Rattle.htmd_document.specs.Documents.{paragraph, Blocks, no_blocks, block, list, Items, no_items, item, table}
+use Rattle.htmd_document.specs.Documents.{element}
 use Rattle.htmd_law_returning.specs.SettledDocuments.{numbers_fit}
 use Rattle.htmd_law_returning.specs.WholeLines.{is_whole}
 use Rattle.htmd_law_settled.specs.BareBreaks.{has_bare_breaks}
 use Rattle.htmd_law_settled.specs.Leaves.{are_blocks_of}
-use Rattle.htmd_law_settled.specs.NeatLeaves.{neat, is_neat_code}
+use Rattle.htmd_law_settled.specs.NeatLeaves.{neat, is_neat_code, has_neat_attributes, is_neat_element}
 use lib.Utf8.{encode}
 
 a_text : are_blocks_of neat (block (paragraph (inline (text (codes "a b")) no_inlines)) no_blocks) ≡ true
@@ -135,3 +140,77 @@ less_deep = refl
 
 from_one_on : numbers_fit 8 (block (list (Some 1) true (so_many 100 a)) no_blocks) ≡ true
 from_one_on = refl
+
+-- ---- elements
+
+abbrev opened : BlockAttribute
+opened = record { name = attribute.Open; value = [] }
+
+a_details : has_neat_attributes name.Details (opened ∷ []) ≡ true
+a_details = refl
+
+opened_twice : has_neat_attributes name.Details (opened ∷ opened ∷ []) ≡ false
+opened_twice = refl
+
+a_cell : has_neat_attributes name.Cell (record { name = attribute.ColumnSpan; value = codes "2" } ∷ []) ≡ true
+unfolding digits
+a_cell = refl
+
+an_open_summary : has_neat_attributes name.Summary (opened ∷ []) ≡ false
+an_open_summary = refl
+
+-- a figure without a caption, and one with it
+a_figure_alone : is_neat_element name.Figure [] (block (paragraph (inline (text (codes "a")) no_inlines)) no_blocks)
+    ≡ false
+a_figure_alone = refl
+
+a_captioned_figure : is_neat_element name.Figure [] (block (element name.FigureCaption [] no_blocks) no_blocks) ≡ true
+a_captioned_figure = refl
+
+-- a list of terms whose one term is empty, and one with something in it
+abbrev term : Blocks → Blocks
+term content = block (element name.Term [] content) no_blocks
+
+an_empty_list_of_terms : is_neat_element name.Terms [] (term no_blocks) ≡ false
+an_empty_list_of_terms = refl
+
+a_list_of_terms : is_neat_element name.Terms []
+    (term (block (paragraph (inline (text (codes "a")) no_inlines)) no_blocks)) ≡ true
+a_list_of_terms = refl
+
+-- ---- tables that are elements
+
+abbrev a_row : Blocks → Blocks
+a_row cells = block (element name.Row [] cells) no_blocks
+
+abbrev a_paragraph : Blocks
+a_paragraph = block (paragraph (inline (text (codes "a")) no_inlines)) no_blocks
+
+abbrev header_of : Blocks → Blocks
+header_of cells = block (element name.HeaderCell [] a_paragraph) cells
+
+-- a header beside another cell says that it isn't for layout
+a_table_of_data : is_neat_element name.Table []
+    (a_row (header_of (block (element name.Cell [] a_paragraph) no_blocks))) ≡ true
+a_table_of_data = refl
+
+-- a header alone is GitHub's
+of_github : is_neat_element name.Table [] (a_row (header_of no_blocks)) ≡ false
+of_github = refl
+
+-- one cell is for layout, where there is no border
+for_layout : is_neat_element name.Table [] (a_row (block (element name.Cell [] a_paragraph) no_blocks)) ≡ false
+for_layout = refl
+
+with_a_border : is_neat_element name.Table (record { name = attribute.Border; value = codes "1" } ∷ [])
+    (a_row (block (element name.Cell [] a_paragraph) no_blocks)) ≡ true
+with_a_border = refl
+
+-- a row in which nothing stands, and one whose cell takes two rows
+an_empty_row : is_neat_element name.Table [] (a_row (block (element name.HeaderCell [] no_blocks)
+    (block (element name.Cell [] no_blocks) no_blocks))) ≡ false
+an_empty_row = refl
+
+of_two_rows : is_neat_element name.Table [] (a_row (block
+    (element name.Cell (record { name = attribute.RowSpan; value = codes "2" } ∷ []) no_blocks) no_blocks)) ≡ true
+of_two_rows = refl

@@ -29,6 +29,7 @@ module _ (k : Leaves) where
     around = around-append c.around (a ∷ []) f.around (h, tt);
     rich = f.rich;
     nested = f.nested;
+    tables = f.tables;
   }
 
   pub format-fits : (at : ℕ) (g : Format) (c : Context) → k.format g ≡ true → FitsIn k at c
@@ -55,13 +56,16 @@ module _ (k : Leaves) where
       either-around (is_link a) around (a ∷ without_link around) h.1 (h.0, without-has around h.1)
 
   pub unlinked-fits : (at : ℕ) (c : Context) → FitsIn k at c → FitsIn k at (unlinked c)
-  unlinked-fits at c f = record { around = without-has c.around f.around; rich = f.rich; nested = f.nested }
+  unlinked-fits at c f =
+      record { around = without-has c.around f.around; rich = f.rich; nested = f.nested; tables = f.tables }
 
   pub code-fits : (at : ℕ) (c : Context) → FitsIn k at c → FitsIn k at (in_code c)
-  code-fits at c f = record { around = f.around; rich = f.rich; nested = f.nested }
+  code-fits at c f = record { around = f.around; rich = f.rich; nested = f.nested; tables = f.tables }
 
   pub beside-fits : (at : ℕ) (n : ℕ) (attributes : List AttributePair) (c : Context) → FitsIn k at c
       → FitsIn k at (beside_code n attributes c)
   beside-fits at zero attributes c f = f
-  beside-fits at (suc zero) attributes c f = record { around = f.around; rich = f.rich; nested = f.nested }
-  beside-fits at (suc (suc n)) attributes c f = record { around = f.around; rich = f.rich; nested = f.nested }
+  beside-fits at (suc zero) attributes c f =
+      record { around = f.around; rich = f.rich; nested = f.nested; tables = f.tables }
+  beside-fits at (suc (suc n)) attributes c f =
+      record { around = f.around; rich = f.rich; nested = f.nested; tables = f.tables }

@@ -3,6 +3,7 @@ use Rattle.std.proofs.Common.{◌≡◌, ℕ, suc, Bool, true, false, not, ◌&&
 use Rattle.std.proofs.Common.{Some, None, refl}
 use Rattle.std.specs.Prelude.{if◌then◌else◌, codes, filter}
 use Rattle.std.specs.Str.{chars}
+use Rattle.std.proofs.lemmas.Bool.{false≢true}
 use Rattle.htmd_lexical.specs.AttributePairs.{AttributePair}
 use Rattle.htmd_lexical.specs.Characters.{space}
 use Rattle.htmd_document.specs.Documents.{Inlines, no_inlines, inline, Blocks, no_blocks, block, code_block}
@@ -16,7 +17,7 @@ use Rattle.htmd_shown.specs.Attributes.{has_attribute, text_of, title_of, descri
 use Rattle.htmd_shown.specs.Attributes.{is_any_case, is_filled}
 use Rattle.htmd_shown.specs.Kinds.{has}
 use Rattle.htmd_shown.specs.Roles as roles
-use Rattle.htmd_shown.specs.Showings.{show_usual_sign}
+use Rattle.htmd_shown.specs.Showings.{show, show_usual_sign}
 use Rattle.htmd_shown.specs.SimpleTrees.{Simple, text, image, formula, embedded, anchor, element, Simples, none, more}
 use Rattle.htmd_shown.specs.Spaces.{is_blank_text}
 use Rattle.htmd_flow.specs.Contexts.{Context, has_elements, is_lined, is_link, inside_format}
@@ -27,7 +28,7 @@ use Rattle.htmd_flow.specs.Flows.{math_block, math_in_line, formula_parts, embed
 use Rattle.htmd_flow.specs.Flows.{linked_by}
 use Rattle.htmd_flow.specs.Flows.{between, heading_of, around_heading, heading_parts, quote_of, quote_parts, code_parts}
 use Rattle.htmd_flow.specs.Flows.{verbatim_parts, start_of, near_parts}
-use Rattle.htmd_flow.specs.Flows.{title_parts, parts_of, leaf, parts_of_child, is_cell}
+use Rattle.htmd_flow.specs.Flows.{title_parts, parts_of, parts_of_child, is_cell}
 use Rattle.htmd_flow.specs.Flows.{around_title, rich_table_at, term_parts, table_parts}
 use Rattle.htmd_flow.specs.Flows.{described_parts, no_part, part_of, leads_to, row_with}
 use Rattle.htmd_flow.specs.Flows.{node_of, nodes_of, nodes_below, terms_of, rows_among, rows_at, pieces_of, pieces_at}
@@ -44,6 +45,7 @@ use Rattle.htmd_law_settled.proofs.LeafLines.{parts-blocks, parts-line}
 use Rattle.htmd_law_settled.proofs.LeafNodes.{parts-append, either-parts, apart-has, Gives, HasNode, AllNodes}
 use Rattle.htmd_law_settled.proofs.LeafNodes.{deeper-fits, line-fits, list-parts-have, flow-has, AllTerms, terms-have}
 use Rattle.htmd_law_settled.proofs.LeafNodes.{AllRows, space-has, table-has}
+use Rattle.htmd_law_settled.proofs.ShownHeaders.{FillsCells, FillsBlocks}
 use Rattle.htmd_law_settled.proofs.LeafContexts.{either-fits, format-fits, link-fits, unlinked-fits, code-fits}
 use Rattle.htmd_law_settled.proofs.LeafContexts.{beside-fits}
 use Rattle.htmd_law_settled.proofs.LeafRich.{richly, details-has, figure-has, described-has, AllPieces, rich-table-has}
@@ -94,6 +96,8 @@ module _ (k : Leaves) where
     HasTree (anchor id) = Unit {0}
     HasTree (element id r facts attributes content) =
         HasRole r attributes × HasCode attributes content × HaveTrees content
+        × FillsCells (show false content) (flow_all (nodes_of content))
+        × (roles.is_figure_caption r ≡ true → FillsBlocks (show false content) (flow_all (nodes_of content)))
 
     pub HaveTrees : Simples → Type 0
     HaveTrees none = Unit {0}
@@ -276,25 +280,26 @@ module _ (k : Leaves) where
           list-parts-have k spaces (Some (start_of e.attributes)) e.nodes all at c f
       element-has role.Terms t at c f =
           richly k spaces at c f (described_parts e.terms c) (term_parts e.terms e.nodes c)
-          (λ rich. described-has k spaces rich e.terms terms at c f)
-          (terms-have k spaces e.terms e.nodes terms all at c f)
+          (λ rich some. described-has k spaces rich e.terms terms at c f)
+          (λ plain. terms-have k spaces e.terms e.nodes terms all at c f)
       element-has role.Table t at c f =
           richly k spaces at c f (rich_table_at e c) (table_parts (list_of e.content) e.nodes e.rows c)
-          (λ rich. rich-table-has k spaces rich (list_of e.content) e.attributes e.pieces e.nodes pieces all at c f)
-          (table-has k spaces (list_of e.content) e.nodes e.rows all table at c f)
+          (λ rich some.
+          rich-table-has k spaces rich (list_of e.content) e.attributes e.pieces e.nodes pieces all at c f some)
+          (λ plain. table-has k spaces (list_of e.content) e.nodes e.rows all table at c f plain)
       element-has role.Division t at c f = near at c f
       element-has role.Figure t at c f =
           let d : Context = beside_code e.facts.pres e.attributes c in
           let fits = beside-fits k at e.facts.pres e.attributes c f in
           apart-has k at (if has_elements d then captioned e.nodes d else flow_all e.nodes d)
           (richly k spaces at d fits (captioned e.nodes d) (flow_all e.nodes d)
-          (λ rich. figure-has k spaces rich e.nodes all at d fits) (here at d fits))
+          (λ rich some. figure-has k spaces rich e.nodes all at d fits some) (λ plain. here at d fits))
       element-has role.Details t at c f =
           let inner : List Part =
           element_part name.Details (open_attribute e.attributes) (blocks_of false (titled name.Summary e.nodes c)) in
           apart-has k at (if has_elements c then inner else flow_all e.nodes c)
           (richly k spaces at c f inner (flow_all e.nodes c)
-          (λ rich. details-has k spaces rich e.attributes e.nodes all at c f) (here at c f))
+          (λ rich some. details-has k spaces rich e.attributes e.nodes all at c f some) (λ plain. here at c f))
       element-has role.Term t at c f = titles at c f
       element-has role.Caption t at c f = titles at c f
       element-has role.FigureCaption t at c f = titles at c f
@@ -352,20 +357,34 @@ module _ (k : Leaves) where
     either-pieces true n rows g h = (g, tt)
     either-pieces false n rows g h = rows-pieces rows h
 
-    a-leaf : (t : Simple) (parts : Context → List Part) → Gives k parts → HasNode k (leaf t parts)
-    a-leaf t parts h = record { whole = h; content = λ at c f. tt }
+    unshown : {A : Type 0} → false ≡ true → A
+    unshown e = absurd (false≢true e)
 
     mutual
       unfolding node_of
 
       node-has : (t : Simple) → HasTree t → HasNode k (node_of t)
-      node-has (text s) h = record { whole = run-has s h; content = λ at c f. tt }
-      node-has (image o attributes) h = record { whole = image-has o attributes h; content = λ at c f. tt }
+      node-has (text s) h = record { whole = run-has s h; content = λ at c f. tt; shown = unshown; filled = unshown }
+      node-has (image o attributes) h =
+          record { whole = image-has o attributes h; content = λ at c f. tt; shown = unshown; filled = unshown }
       node-has (formula tex is_alone attributes) h =
-          record { whole = formula-has tex is_alone h.0 h.1; content = λ at c f. tt }
+          record {
+            whole = formula-has tex is_alone h.0 h.1;
+            content = λ at c f. tt;
+            shown = unshown;
+            filled =
+                unshown;
+          }
       node-has (embedded id s title attributes ids) h =
-          record { whole = embed-has id s title ids h.0 h.1; content = λ at c f. tt }
-      node-has (anchor id) h = record { whole = λ at c f. (tt, tt); content = λ at c f. tt }
+          record {
+            whole = embed-has id s title ids h.0 h.1;
+            content = λ at c f. tt;
+            shown = unshown;
+            filled =
+                unshown;
+          }
+      node-has (anchor id) h = record
+          { whole = λ at c f. (tt, tt); content = λ at c f. tt; shown = unshown; filled = unshown }
       node-has (element id r facts attributes content) h = record {
         whole = element-has (record {
           id = id;
@@ -379,6 +398,8 @@ module _ (k : Leaves) where
         }) h.1 (nodes-have content h.2) (rows-have no_part content h.2) (pieces-have content h.2)
             (child-terms content h.2) r h.0;
         content = flow-has k spaces (nodes_of content) (nodes-have content h.2);
+        shown = h.3;
+        filled = h.4;
       }
 
       pub nodes-have : (ts : Simples) → HaveTrees ts → AllNodes k (nodes_of ts)

@@ -1,5 +1,5 @@
 -- What is said of leaves by types, said by tests.
-use Rattle.std.proofs.Common.{◌≡◌, ℕ, suc, Bool, true, false, ◌&&◌, List, [], ◌∷◌, refl, sym, ap, ◌∙◌}
+use Rattle.std.proofs.Common.{◌≡◌, ℕ, suc, Bool, true, false, ◌&&◌, List, [], ◌∷◌, refl, sym, ap, ◌∙◌, inl, inr}
 use Rattle.std.specs.List.{list_all}
 use Rattle.std.specs.Str.{chars}
 use Rattle.std.proofs.Math.Utf8.{scalars, scalar}
@@ -9,14 +9,17 @@ use Rattle.htmd_document.specs.Documents.{Inline, text, code, formatted, link, i
 use Rattle.htmd_document.specs.Documents.{Inlines, no_inlines, inline, Block, paragraph, heading, code_block, quote}
 use Rattle.htmd_document.specs.Documents.{thematic_break, list, table, element, tags, Blocks, no_blocks, block}
 use Rattle.htmd_document.specs.Documents.{Items, no_items, item}
+use Rattle.htmd_document.specs.Documents.{BlockAttribute}
+use Rattle.htmd_document.specs.declared.document.BlockElement.{BlockElement}
 use Rattle.htmd_law_settled.specs.Leaves.{Leaves, is_text_of, is_inline_of, is_line_of, is_whole_line_of, are_cells_of}
 use Rattle.htmd_law_settled.specs.Leaves.{is_block_of}
 use Rattle.htmd_law_settled.specs.Leaves.{are_blocks_of, are_items_of}
 use Rattle.htmd_law_settled.proofs.LeafLines.{AllCharacters, IsText, HasInline, HasLine, HasWhole, HaveCells, HaveRows}
+use Rattle.htmd_law_settled.specs.StandingElements.{Holder, in_flow, in_details, in_figure, inside}
 use Rattle.htmd_law_settled.proofs.LeafLines.{HasBlock}
+use Rattle.htmd_law_settled.proofs.LeafLines.{HasPiece, HaveInside}
 use Rattle.htmd_document.specs.NormalDocuments.{item_count}
 use Rattle.htmd_law_returning.specs.SettledDocuments.{is_right_list, has_fitting_numbers, block_numbers_fit}
-use Rattle.htmd_law_returning.specs.SettledDocuments.{shows_last_column}
 use Rattle.htmd_law_returning.specs.SettledDocuments.{numbers_fit, item_numbers_fit}
 use Rattle.htmd_law_rendering.specs.PlainReadings.{block_has_no_elements, blocks_have_no_elements}
 use Rattle.htmd_law_rendering.specs.PlainReadings.{items_have_no_elements}
@@ -26,16 +29,9 @@ use Rattle.htmd_law_settled.proofs.LeafLines.{HaveBlocks, HaveItems}
 -- how lists are tight on a page
 abbrev AllowsRight : Leaves → Type 0
 AllowsRight k = (is_tight : Bool) (items : Items)
-    → (items_have_no_elements items ≡ true → is_right_list is_tight items ≡ true)
-    → k.list is_tight items ≡ true
+    → is_right_list is_tight items ≡ true → k.list is_tight items ≡ true
 
--- and which columns its tables have
-abbrev AllowsShown : Leaves → Type 0
-AllowsShown k = (header : List Inlines) (rows : List (List Inlines)) → shows_last_column header rows ≡ true
-    → k.table header rows ≡ true
-
-module _ (k : Leaves) (wholes : (xs : Inlines) → Whole xs → k.line xs ≡ true) (rights : AllowsRight k)
-    (shown : AllowsShown k) where
+module _ (k : Leaves) (wholes : (xs : Inlines) → Whole xs → k.line xs ≡ true) (rights : AllowsRight k) where
   characters-hold : (cs : List ℕ) → AllCharacters k cs
       → (scalars cs ≡ true) × (list_all k.character cs ≡ true)
   characters-hold [] h = (refl, refl)
@@ -82,32 +78,53 @@ module _ (k : Leaves) (wholes : (xs : Inlines) → Whole xs → k.line xs ≡ tr
     block-holds n (paragraph content) h = whole-holds content h
     block-holds n (heading level content) h = whole-holds content h
     block-holds n (code_block language s) h = h
-    block-holds n (quote content) h = blocks-hold (suc n) content h
+    block-holds n (quote content) h = inside-holds in_flow (suc n) content h
     block-holds n thematic_break h = refl
     block-holds n (list start is_tight items) h =
         and_from (k.list is_tight items) (are_items_of k items) (rights is_tight items h.0.0)
         (items-hold (suc n) items h.1)
     block-holds n (table alignments header rows) h =
         and_from (k.table header rows) (are_cells_of k header && list_all (are_cells_of k) rows)
-        (shown header rows h.2)
+        h.2
         (and_from (are_cells_of k header) (list_all (are_cells_of k) rows) (cells-hold header h.0)
         (rows-hold rows h.1))
     block-holds n (element name attributes content) h =
-        and_from k.elements (are_blocks_of k content) h.0 (blocks-hold n content h.1)
+        and_from (k.element name attributes content) (are_blocks_of k content) h.0
+        (inside-holds (inside name) n content h.3)
     block-holds n (tags s) h = absurd h
 
-    pub blocks-hold : (n : ℕ) (bs : Blocks) → HaveBlocks k n bs → are_blocks_of k bs ≡ true
-    blocks-hold n no_blocks h = refl
-    blocks-hold n (block b bs) h =
-        and_from (is_block_of k b) (are_blocks_of k bs) (block-holds n b h.0) (blocks-hold n bs h.1)
+    piece-holds : (o : Holder) (n : ℕ) (b : Block) → HasPiece k o n b → is_block_of k b ≡ true
+    piece-holds o n (element name attributes content) h =
+        and_from (k.element name attributes content) (are_blocks_of k content) h.0
+        (inside-holds (inside name) n content h.3)
+    piece-holds o n b h = absurd h
+
+    inside-holds : (o : Holder) (n : ℕ) (bs : Blocks) → HaveInside k o n bs → are_blocks_of k bs ≡ true
+    inside-holds o n no_blocks h = refl
+    inside-holds in_flow n (block b bs) h =
+        and_from (is_block_of k b) (are_blocks_of k bs) (block-holds n b h.0) (inside-holds in_flow n bs h.1)
+    inside-holds in_details n (block b bs) h =
+        and_from (is_block_of k b) (are_blocks_of k bs)
+        (elim h.0 [ inl x ↦ block-holds n b x | inr x ↦ piece-holds in_details n b x ])
+        (inside-holds in_details n bs h.1)
+    inside-holds in_figure n (block b bs) h =
+        and_from (is_block_of k b) (are_blocks_of k bs)
+        (elim h.0 [ inl x ↦ block-holds n b x | inr x ↦ piece-holds in_figure n b x ])
+        (inside-holds in_figure n bs h.1)
+    inside-holds o n (block b bs) h =
+        and_from (is_block_of k b) (are_blocks_of k bs) (piece-holds o n b h.0) (inside-holds o n bs h.1)
 
     items-hold : (n : ℕ) (items : Items) → HaveItems k n items → are_items_of k items ≡ true
     items-hold n no_items h = refl
     items-hold n (item bs items) h =
-        and_from (are_blocks_of k bs) (are_items_of k items) (blocks-hold n bs h.0) (items-hold n items h.1)
+        and_from (are_blocks_of k bs) (are_items_of k items) (inside-holds in_flow n bs h.0) (items-hold n items h.1)
+
+  pub blocks-hold : (n : ℕ) (bs : Blocks) → HaveBlocks k n bs → are_blocks_of k bs ≡ true
+  blocks-hold n bs h = inside-holds in_flow n bs h
 
 -- where there are no elements
-module _ (k : Leaves) (plain : k.elements ≡ false) where
+module _ (k : Leaves) (plain : (name : BlockElement) (attributes : List BlockAttribute) (content : Blocks)
+    → k.element name attributes content ≡ false) where
   mutual
     block-plain : (n : ℕ) (b : Block) → HasBlock k n b → block_has_no_elements b ≡ true
     block-plain n (paragraph content) h = refl
@@ -117,7 +134,8 @@ module _ (k : Leaves) (plain : k.elements ≡ false) where
     block-plain n thematic_break h = refl
     block-plain n (list start is_tight items) h = items-plain (suc n) items h.1
     block-plain n (table alignments header rows) h = refl
-    block-plain n (element name attributes content) h = absurd (false≢true (sym plain ∙ h.0))
+    block-plain n (element name attributes content) h =
+        absurd (false≢true (sym (plain name attributes content) ∙ h.0))
     block-plain n (tags s) h = absurd h
 
     pub blocks-plain : (n : ℕ) (bs : Blocks) → HaveBlocks k n bs → blocks_have_no_elements bs ≡ true
@@ -138,21 +156,38 @@ module _ (k : Leaves) where
     block-fits n (paragraph content) h = refl
     block-fits n (heading level content) h = refl
     block-fits n (code_block language s) h = refl
-    block-fits n (quote content) h = blocks-fit (suc n) content h
+    block-fits n (quote content) h = inside-fits in_flow (suc n) content h
     block-fits n thematic_break h = refl
     block-fits n (list start is_tight items) h =
         and_from (has_fitting_numbers n start (item_count items)) (item_numbers_fit (suc n) items) h.0.1
         (items-fit (suc n) items h.1)
     block-fits n (table alignments header rows) h = refl
-    block-fits n (element name attributes content) h = blocks-fit n content h.1
+    block-fits n (element name attributes content) h = inside-fits (inside name) n content h.3
     block-fits n (tags s) h = absurd h
 
-    pub blocks-fit : (n : ℕ) (bs : Blocks) → HaveBlocks k n bs → numbers_fit n bs ≡ true
-    blocks-fit n no_blocks h = refl
-    blocks-fit n (block b bs) h =
-        and_from (block_numbers_fit n b) (numbers_fit n bs) (block-fits n b h.0) (blocks-fit n bs h.1)
+    piece-fits : (o : Holder) (n : ℕ) (b : Block) → HasPiece k o n b → block_numbers_fit n b ≡ true
+    piece-fits o n (element name attributes content) h = inside-fits (inside name) n content h.3
+    piece-fits o n b h = absurd h
+
+    inside-fits : (o : Holder) (n : ℕ) (bs : Blocks) → HaveInside k o n bs → numbers_fit n bs ≡ true
+    inside-fits o n no_blocks h = refl
+    inside-fits in_flow n (block b bs) h =
+        and_from (block_numbers_fit n b) (numbers_fit n bs) (block-fits n b h.0) (inside-fits in_flow n bs h.1)
+    inside-fits in_details n (block b bs) h =
+        and_from (block_numbers_fit n b) (numbers_fit n bs)
+        (elim h.0 [ inl x ↦ block-fits n b x | inr x ↦ piece-fits in_details n b x ])
+        (inside-fits in_details n bs h.1)
+    inside-fits in_figure n (block b bs) h =
+        and_from (block_numbers_fit n b) (numbers_fit n bs)
+        (elim h.0 [ inl x ↦ block-fits n b x | inr x ↦ piece-fits in_figure n b x ])
+        (inside-fits in_figure n bs h.1)
+    inside-fits o n (block b bs) h =
+        and_from (block_numbers_fit n b) (numbers_fit n bs) (piece-fits o n b h.0) (inside-fits o n bs h.1)
 
     items-fit : (n : ℕ) (items : Items) → HaveItems k n items → item_numbers_fit n items ≡ true
     items-fit n no_items h = refl
     items-fit n (item bs items) h =
-        and_from (numbers_fit n bs) (item_numbers_fit n items) (blocks-fit n bs h.0) (items-fit n items h.1)
+        and_from (numbers_fit n bs) (item_numbers_fit n items) (inside-fits in_flow n bs h.0) (items-fit n items h.1)
+
+  pub blocks-fit : (n : ℕ) (bs : Blocks) → HaveBlocks k n bs → numbers_fit n bs ≡ true
+  blocks-fit n bs h = inside-fits in_flow n bs h

@@ -1,6 +1,7 @@
 -- Parts whose leaves are of a kind make blocks and lines whose leaves are.
 use Rattle.std.proofs.Common.{◌≡◌, ℕ, zero, suc, Bool, true, false, not, ◌&&◌, List, [], ◌∷◌, ◌++◌, refl, sym, ap}
-use Rattle.std.proofs.Common.{Option, subst, ◌∙◌, map, fold, take, append_assoc}
+use Rattle.std.proofs.Common.{Option, subst, ◌∙◌, map, fold, take, append_assoc, inl}
+use Rattle.std.specs.Prelude.{◌⊎◌}
 use Rattle.std.specs.Prelude.{if◌then◌else◌, encode_utf8, encode_utf8_all, nat_le}
 use Rattle.std.specs.List.{list_all}
 use Rattle.std.specs.Str.{chars, IsUtf8}
@@ -12,7 +13,11 @@ use Rattle.htmd_lexical.specs.WhiteSpace.{is_ascii_white_space}
 use Rattle.htmd_document.specs.Documents.{Inline, text, code, formatted, link, image, anchor, line_break, task}
 use Rattle.htmd_document.specs.Documents.{Inlines, no_inlines, inline, Block, paragraph, heading, code_block, quote}
 use Rattle.htmd_document.specs.Documents.{thematic_break, list, table, element, tags, Blocks, no_blocks, block}
-use Rattle.htmd_document.specs.Documents.{Items, no_items, item}
+use Rattle.htmd_document.specs.Documents.{Items, no_items, item, BlockAttribute}
+use Rattle.htmd_document.specs.declared.document.BlockElement.{BlockElement}
+use Rattle.htmd_document.specs.declared.document.BlockElement.TheVariants as name
+use Rattle.htmd_lexical.specs.Attributes.{attribute_names}
+use Rattle.htmd_lexical.specs.CharacterClasses.{are_distinct}
 use Rattle.htmd_flow.specs.Nesting.{wrapped, wrapped_by, one_inline, text_or_code, met, joined, with_content, in_last}
 use Rattle.htmd_flow.specs.Nesting.{Wrapper, behind, wrapper_of, shared, before_link}
 use Rattle.htmd_flow.specs.Nodes.{blocks_of, line_of}
@@ -30,13 +35,20 @@ use Rattle.htmd_flow.specs.Parts as part
 use Rattle.htmd_shown.specs.Spaces.{Gap, is_white, shown_white, ends_with_space}
 use Rattle.htmd_document.specs.Documents as documents
 use Rattle.htmd_document.specs.NormalDocuments.{item_count}
-use Rattle.htmd_law_rendering.specs.PlainReadings.{items_have_no_elements}
-use Rattle.htmd_law_returning.specs.SettledDocuments.{is_right_list, has_fitting_numbers, shows_last_column}
+use Rattle.htmd_law_rendering.specs.RenderedTrees.{pairs_of_element}
+use Rattle.htmd_law_returning.specs.SettledDocuments.{is_right_list, has_fitting_numbers}
 use Rattle.htmd_law_settled.specs.Leaves.{Leaves}
+use Rattle.htmd_law_settled.specs.NeatLeaves.{is_neat_element}
+use Rattle.htmd_law_settled.specs.StandingElements.{Holder, in_flow, in_details, in_figure}
+use Rattle.htmd_law_settled.specs.StandingElements.{inside, stands_in, is_mixed}
 use Rattle.htmd_law_settled.proofs.LineShapes.{Whole}
 use Rattle.htmd_law_settled.proofs.LinePlaces.{Along, IsLeaf, along-before, along-weaker, is_code_inline}
 use Rattle.htmd_law_settled.proofs.LineWritings.{IsWritten, character-leaf, code-inline, shown-written, line-whole}
 use lib.Utf8.{encode}
+
+-- no attribute comes twice
+abbrev pub are_different : List BlockAttribute → Bool
+are_different attributes = are_distinct (attribute_names (pairs_of_element attributes))
 
 module _ (k : Leaves) where
   -- ---- texts
@@ -80,6 +92,11 @@ module _ (k : Leaves) where
   text-character : (c : ℕ) → scalar c ≡ true → k.character c ≡ true → IsText (encode_utf8 c)
   text-character c e f = (c ∷ [], sym (append-nil (encode_utf8 c)), (e, f, tt))
 
+  -- elements that a page may have
+  abbrev pub AllowsElements : Type 0
+  AllowsElements = (name : BlockElement) (attributes : List BlockAttribute) (content : Blocks)
+      → is_neat_element name attributes content ≡ true → k.element name attributes content ≡ true
+
   -- ---- documents
 
   abbrev mutual
@@ -112,11 +129,10 @@ module _ (k : Leaves) where
   HaveRows [] = Unit {0}
   HaveRows (r ∷ rs) = HaveCells r × HaveRows rs
 
-  -- in so many lists and quotes a page shows this list, if no element stands in it
+  -- in so many lists and quotes a page shows this list
   abbrev pub IsRightList : ℕ → Option ℕ → Bool → Items → Type 0
   IsRightList n start is_tight items =
-      (items_have_no_elements items ≡ true → is_right_list is_tight items ≡ true)
-      × (has_fitting_numbers n start (item_count items) ≡ true)
+      (is_right_list is_tight items ≡ true) × (has_fitting_numbers n start (item_count items) ≡ true)
 
   abbrev mutual
     -- in so many lists and quotes
@@ -124,21 +140,56 @@ module _ (k : Leaves) where
     HasBlock n (paragraph content) = HasWhole content
     HasBlock n (heading level content) = HasWhole content
     HasBlock n (code_block language s) = k.code language s ≡ true
-    HasBlock n (quote content) = HaveBlocks (suc n) content
+    HasBlock n (quote content) = HaveInside in_flow (suc n) content
     HasBlock n thematic_break = Unit {0}
     HasBlock n (list start is_tight items) = IsRightList n start is_tight items × HaveItems (suc n) items
     HasBlock n (table alignments header rows) =
-        HaveCells header × HaveRows rows × (shows_last_column header rows ≡ true)
-    HasBlock n (element name attributes content) = (k.elements ≡ true) × HaveBlocks n content
+        HaveCells header × HaveRows rows × (k.table header rows ≡ true)
+    HasBlock n (element name attributes content) =
+        (k.element name attributes content ≡ true) × (stands_in in_flow name ≡ true)
+        × (are_different attributes ≡ true)
+        × HaveInside (inside name) n content
     HasBlock n (tags s) = ⊥
 
-    pub HaveBlocks : ℕ → Blocks → Type 0
-    HaveBlocks n no_blocks = Unit {0}
-    HaveBlocks n (block b bs) = HasBlock n b × HaveBlocks n bs
+    -- a part of an element
+    pub HasPiece : Holder → ℕ → Block → Type 0
+    HasPiece h n (element name attributes content) =
+        (k.element name attributes content ≡ true) × (stands_in h name ≡ true)
+        × (are_different attributes ≡ true)
+        × HaveInside (inside name) n content
+    HasPiece h n b = ⊥
+
+    pub HaveInside : Holder → ℕ → Blocks → Type 0
+    HaveInside h n no_blocks = Unit {0}
+    HaveInside in_flow n (block b bs) = HasBlock n b × HaveInside in_flow n bs
+    HaveInside in_details n (block b bs) = (HasBlock n b ⊎ HasPiece in_details n b) × HaveInside in_details n bs
+    HaveInside in_figure n (block b bs) = (HasBlock n b ⊎ HasPiece in_figure n b) × HaveInside in_figure n bs
+    HaveInside h n (block b bs) = HasPiece h n b × HaveInside h n bs
 
     pub HaveItems : ℕ → Items → Type 0
     HaveItems n no_items = Unit {0}
-    HaveItems n (item bs items) = HaveBlocks n bs × HaveItems n items
+    HaveItems n (item bs items) = HaveInside in_flow n bs × HaveItems n items
+
+  abbrev pub HaveBlocks : ℕ → Blocks → Type 0
+  HaveBlocks n bs = HaveInside in_flow n bs
+
+  abbrev pub IsElement : Holder → ℕ → BlockElement → List BlockAttribute → Blocks → Type 0
+  IsElement h n name attributes content =
+      (k.element name attributes content ≡ true) × (stands_in h name ≡ true) × (are_different attributes ≡ true)
+      × HaveInside (inside name) n content
+
+  -- a block there
+  abbrev pub HasIn : Holder → ℕ → Block → Type 0
+  HasIn in_flow n b = HasBlock n b
+  HasIn in_details n b = HasBlock n b ⊎ HasPiece in_details n b
+  HasIn in_figure n b = HasBlock n b ⊎ HasPiece in_figure n b
+  HasIn h n b = HasPiece h n b
+
+  flow-in : (o : Holder) → is_mixed o ≡ true → (n : ℕ) (b : Block) → HasBlock n b → HasIn o n b
+  flow-in in_flow e n b h = h
+  flow-in in_details e n b h = inl h
+  flow-in in_figure e n b h = inl h
+  flow-in o e n b h = absurd (cc)
 
   -- ---- parts
 
@@ -150,19 +201,38 @@ module _ (k : Leaves) where
   AllAround [] = Unit {0}
   AllAround (a ∷ around) = HasAround a × AllAround around
 
-  abbrev pub HasPart : ℕ → Part → Type 0
-  HasPart n (run s around is_code) = AllCharacters (chars s) × AllAround around
-  HasPart n (picture address title description around) =
+  -- a part of what stands there
+  abbrev pub HasPartIn : Holder → ℕ → Part → Type 0
+  HasPartIn o n (run s around is_code) = AllCharacters (chars s) × AllAround around
+  HasPartIn o n (picture address title description around) =
       (k.image address title description ≡ true) × AllAround around
-  HasPart n break = Unit {0}
-  HasPart n (place id) = Unit {0}
-  HasPart n (box is_checked) = Unit {0}
-  HasPart n edge = Unit {0}
-  HasPart n (whole b) = HasBlock n b
+  HasPartIn o n break = Unit {0}
+  HasPartIn o n (place id) = Unit {0}
+  HasPartIn o n (box is_checked) = Unit {0}
+  HasPartIn o n edge = Unit {0}
+  HasPartIn o n (whole b) = HasIn o n b
+
+  abbrev pub AllPartsIn : Holder → ℕ → List Part → Type 0
+  AllPartsIn o n [] = Unit {0}
+  AllPartsIn o n (p ∷ ps) = HasPartIn o n p × AllPartsIn o n ps
 
   abbrev pub AllParts : ℕ → List Part → Type 0
-  AllParts n [] = Unit {0}
-  AllParts n (p ∷ ps) = HasPart n p × AllParts n ps
+  AllParts n ps = AllPartsIn in_flow n ps
+
+  part-flow : (o : Holder) → is_mixed o ≡ true → (n : ℕ) (p : Part) → HasPartIn in_flow n p
+      → HasPartIn o n p
+  part-flow o e n (run s around is_code) h = h
+  part-flow o e n (picture address title description around) h = h
+  part-flow o e n break h = h
+  part-flow o e n (place id) h = h
+  part-flow o e n (box is_checked) h = h
+  part-flow o e n edge h = h
+  part-flow o e n (whole b) h = flow-in o e n b h
+
+  pub parts-flow : (o : Holder) → is_mixed o ≡ true → (n : ℕ) (ps : List Part) → AllParts n ps
+      → AllPartsIn o n ps
+  parts-flow o e n [] h = tt
+  parts-flow o e n (p ∷ ps) h = (part-flow o e n p h.0, parts-flow o e n ps h.1)
 
   -- ---- inlines in each other
 
@@ -231,62 +301,69 @@ module _ (k : Leaves) where
 
   -- ---- blocks
 
-  abbrev AllBlocks : ℕ → List Block → Type 0
-  AllBlocks n [] = Unit {0}
-  AllBlocks n (b ∷ bs) = HasBlock n b × AllBlocks n bs
+  abbrev AllBlocks : Holder → ℕ → List Block → Type 0
+  AllBlocks o n [] = Unit {0}
+  AllBlocks o n (b ∷ bs) = HasIn o n b × AllBlocks o n bs
 
-  blocks-append : (n : ℕ) (bs cs : List Block) → AllBlocks n bs → AllBlocks n cs → AllBlocks n (bs ++ cs)
-  blocks-append n [] cs g h = h
-  blocks-append n (b ∷ bs) cs g h = (g.0, blocks-append n bs cs g.1 h)
+  blocks-append : (o : Holder) (n : ℕ) (bs cs : List Block) → AllBlocks o n bs → AllBlocks o n cs
+      → AllBlocks o n (bs ++ cs)
+  blocks-append o n [] cs g h = h
+  blocks-append o n (b ∷ bs) cs g h = (g.0, blocks-append o n bs cs g.1 h)
 
-  of-blocks : (n : ℕ) (bs : List Block) → AllBlocks n bs → HaveBlocks n (documents.blocks_of bs)
-  of-blocks n [] h = tt
-  of-blocks n (b ∷ bs) h = (h.0, of-blocks n bs h.1)
+  of-blocks : (o : Holder) (n : ℕ) (bs : List Block) → AllBlocks o n bs → HaveInside o n (documents.blocks_of bs)
+  of-blocks o n [] h = tt
+  of-blocks in_flow n (b ∷ bs) h = (h.0, of-blocks in_flow n bs h.1)
+  of-blocks in_details n (b ∷ bs) h = (h.0, of-blocks in_details n bs h.1)
+  of-blocks in_figure n (b ∷ bs) h = (h.0, of-blocks in_figure n bs h.1)
+  of-blocks o n (b ∷ bs) h = (h.0, of-blocks o n bs h.1)
 
-  paragraph-has : (n : ℕ) (xs : Inlines) → HasWhole xs → AllBlocks n (paragraph_of xs)
-  paragraph-has n no_inlines h = tt
-  paragraph-has n (inline x xs) h = (h, tt)
+  paragraph-has : (o : Holder) → is_mixed o ≡ true → (n : ℕ) (xs : Inlines) → HasWhole xs
+      → AllBlocks o n (paragraph_of xs)
+  paragraph-has o e n no_inlines h = tt
+  paragraph-has o e n (inline x xs) h = (flow-in o e n (paragraph (inline x xs)) h, tt)
 
-  -- at a depth
-  module _ (spaces : k.character space ≡ true) (at : ℕ) where
+  -- at a depth, in what holds all that stands elsewhere
+  module _ (spaces : k.character space ≡ true) (o : Holder) (mixed : is_mixed o ≡ true) (at : ℕ) where
     space-text : IsText (space ∷ [])
     unfolding encode
     space-text = (space ∷ [], refl, (refl, spaces, tt))
 
     -- ---- what is begun
 
-    pub record HasWriting (w : Writing) : Type 0 where
-      pub done : AllBlocks at w.done
+    pub record HasWritingIn (w : Writing) : Type 0 where
+      pub done : AllBlocks o at w.done
       pub content : HasLine w.content
       pub gap : IsText w.gap.white
       pub written : IsWritten w.latest w.content w.around w.anchors
 
-    pub begun-has : (in_item is_flat : Bool) → HasWriting (begun in_item is_flat)
-    begun-has in_item is_flat = record { done = tt; content = tt; gap = text-nil; written = refl }
+    pub begun-in : (in_item is_flat : Bool) → HasWritingIn (begun in_item is_flat)
+    begun-in in_item is_flat = record { done = tt; content = tt; gap = text-nil; written = refl }
 
-    either-writing : (b : Bool) (v w : Writing) → HasWriting v → HasWriting w → HasWriting (if b then v else w)
+    either-writing : (b : Bool) (v w : Writing) → HasWritingIn v → HasWritingIn w
+        → HasWritingIn (if b then v else w)
     either-writing true v w g h = g
     either-writing false v w g h = h
 
-    whole-has : (w : Writing) → HasWriting w → HasWhole (whole_content w)
+    whole-has : (w : Writing) → HasWritingIn w → HasWhole (whole_content w)
     whole-has w h = (
       anchored-has 0 w.anchors (shown_content w) [] tt
           (either-line (is_leaf w.latest) w.content no_inlines h.content tt),
       line-whole w h.written,
     )
 
-    ended-has : (w : Writing) → HasWriting w → HasWriting (ended w)
+    ended-has : (w : Writing) → HasWritingIn w → HasWritingIn (ended w)
     ended-has w h = record {
-      done = blocks-append at w.done (open_paragraph w) h.done (paragraph-has at (whole_content w) (whole-has w h));
+      done = blocks-append o at w.done (open_paragraph w) h.done
+          (paragraph-has o mixed at (whole_content w) (whole-has w h));
       content = tt;
       gap = text-nil;
       written = refl;
     }
 
-    parted-has : (w : Writing) → HasWriting w → HasWriting (parted w)
+    parted-has : (w : Writing) → HasWritingIn w → HasWritingIn (parted w)
     parted-has w h = either-writing (not w.is_flat && nat_le 2 w.breaks) (ended w) w (ended-has w h) h
 
-    broken-has : (w : Writing) → HasWriting w → HasWriting (broken_off w)
+    broken-has : (w : Writing) → HasWritingIn w → HasWritingIn (broken_off w)
     broken-has w h = record { done = h.done; content = h.content; gap = text-nil; written = h.written }
 
     white-text : (b : Bool) (c : ℕ) → scalar c ≡ true → k.character c ≡ true
@@ -298,9 +375,9 @@ module _ (k : Leaves) where
     gap-text true g h a b = a
     gap-text false g h a b = b
 
-    spaced-has : (w : Writing) (c : ℕ) (is_code : Bool) → HasWriting w → scalar c ≡ true
+    spaced-has : (w : Writing) (c : ℕ) (is_code : Bool) → HasWritingIn w → scalar c ≡ true
         → k.character c ≡ true
-        → HasWriting (spaced_out w c is_code)
+        → HasWritingIn (spaced_out w c is_code)
     spaced-has w c is_code h e f = record {
       done = h.done;
       content = h.content;
@@ -320,7 +397,7 @@ module _ (k : Leaves) where
         behind-has n xs (take n around) (text_or_code is_code (b ∷ s)) (take-around n around a) g
         (as-text is_code (b ∷ s) h)
 
-    gap-has : (w : Writing) (around : List Around) (is_code : Bool) → HasWriting w → AllAround around
+    gap-has : (w : Writing) (around : List Around) (is_code : Bool) → HasWritingIn w → AllAround around
         → HasLine (gap_before w around is_code)
     gap-has w around is_code h a =
         let wrappers = map wrapper_of around in
@@ -330,7 +407,7 @@ module _ (k : Leaves) where
         (behind-has n w.content (take n around) line_break (take-around n around a) h.content tt)
         (white-has n w.content around (is_code && is_code_gap w wrappers) w.gap.white a h.content h.gap)
 
-    gap-behind-has : (l : Latest) (w : Writing) (around : List Around) (is_code : Bool) → HasWriting w
+    gap-behind-has : (l : Latest) (w : Writing) (around : List Around) (is_code : Bool) → HasWritingIn w
         → AllAround around → HasLine (gap_behind l w around is_code)
     gap-behind-has Nothing w around is_code h a = h.content
     gap-behind-has Task w around is_code h a = behind-has 0 w.content [] (text (space ∷ [])) tt h.content space-text
@@ -351,9 +428,9 @@ module _ (k : Leaves) where
         let q = subst (λ b. Along b ms xs) (coded refl) h.1 in (h.0, along-weaker true xs ms q, λ e. q)
     latest-written false leaf xs ms coded h = (h.0, along-weaker (is_code_inline leaf) xs ms h.1)
 
-    shown-has : (w : Writing) (around : List Around) (is_code : Bool) (leaf : Inline) → HasWriting w
+    shown-has : (w : Writing) (around : List Around) (is_code : Bool) (leaf : Inline) → HasWritingIn w
         → AllAround around → HasInline leaf → IsLeaf leaf → (is_code ≡ true → is_code_inline leaf ≡ true)
-        → HasWriting (shown w around is_code leaf)
+        → HasWritingIn (shown w around is_code leaf)
     shown-has w around is_code leaf h a g l coded =
         let n : ℕ = shared_wrappers w (map wrapper_of around) in
         let before : Inlines = gap_behind w.latest w around is_code in
@@ -368,19 +445,19 @@ module _ (k : Leaves) where
               h.written);
         }
 
-    leaf-has : (w : Writing) (around : List Around) (is_code : Bool) (leaf : Inline) → HasWriting w
+    leaf-has : (w : Writing) (around : List Around) (is_code : Bool) (leaf : Inline) → HasWritingIn w
         → AllAround around → HasInline leaf → IsLeaf leaf → (is_code ≡ true → is_code_inline leaf ≡ true)
-        → HasWriting (after_leaf w around is_code leaf)
+        → HasWritingIn (after_leaf w around is_code leaf)
     leaf-has w around is_code leaf h a g l coded =
         shown-has (parted w) around is_code leaf (parted-has w h) a g l coded
 
-    tasked-has : (w : Writing) (is_checked : Bool) → HasWriting w → HasWriting (tasked w is_checked)
+    tasked-has : (w : Writing) (is_checked : Bool) → HasWritingIn w → HasWritingIn (tasked w is_checked)
     tasked-has w is_checked h =
         either-writing (is_task_here w) (with_task (boxed w) is_checked) (boxed w)
         (record { done = h.done; content = (tt, tt); gap = text-nil; written = (is_checked, refl) })
         (record { done = h.done; content = h.content; gap = h.gap; written = h.written })
 
-    edged-has : (w : Writing) → HasWriting w → HasWriting (edged w)
+    edged-has : (w : Writing) → HasWritingIn w → HasWritingIn (edged w)
     edged-has w h =
         let e = ended-has w h in
         either-writing w.is_flat (broken_off w)
@@ -388,13 +465,13 @@ module _ (k : Leaves) where
         (either-writing (is_boxed_item w) w (record (ended w) { met = met_before.Nothing }) h
         (record { done = e.done; content = e.content; gap = e.gap; written = e.written }))
 
-    blocked-has : (w : Writing) (b : Block) → HasWriting w → HasBlock at b → HasWriting (blocked w b)
+    blocked-has : (w : Writing) (b : Block) → HasWritingIn w → HasIn o at b → HasWritingIn (blocked w b)
     blocked-has w b h g =
         let e = ended-has w h in
         either-writing w.is_flat (broken_off w)
         (record (ended w) { done = (ended w).done ++ b ∷ []; met = met_before.Nothing }) (broken-has w h)
         (record {
-          done = blocks-append at (ended w).done (b ∷ []) e.done (g, tt);
+          done = blocks-append o at (ended w).done (b ∷ []) e.done (g, tt);
           content = e.content;
           gap = e.gap;
           written = e.written;
@@ -402,13 +479,13 @@ module _ (k : Leaves) where
 
     -- ---- the parts
 
-    character-has : (w : Writing) (around : List Around) (is_code : Bool) (c : ℕ) → HasWriting w
+    character-has : (w : Writing) (around : List Around) (is_code : Bool) (c : ℕ) → HasWritingIn w
         → AllAround around
-        → scalar c ≡ true → k.character c ≡ true → HasWriting (after_character w around is_code c)
+        → scalar c ≡ true → k.character c ≡ true → HasWritingIn (after_character w around is_code c)
     character-has w around is_code c h a e f = by_white (is_white c) refl
       where
         by_white : (b : Bool) → is_white c ≡ b
-            → HasWriting (if b then spaced_out w c is_code
+            → HasWritingIn (if b then spaced_out w c is_code
             else after_leaf w around is_code (text_or_code is_code (encode_utf8 c)))
         by_white true q = spaced-has w c is_code h e f
         by_white false q =
@@ -416,9 +493,9 @@ module _ (k : Leaves) where
             (as-text is_code (encode_utf8 c) (text-character c e f)) (character-leaf is_code c e q)
             (λ i. code-inline is_code (encode_utf8 c) i)
 
-    run-has : (cs : List ℕ) (w : Writing) (around : List Around) (is_code : Bool) → HasWriting w
+    run-has : (cs : List ℕ) (w : Writing) (around : List Around) (is_code : Bool) → HasWritingIn w
         → AllAround around
-        → AllCharacters cs → HasWriting (fold (λ v c. after_character v around is_code c) w cs)
+        → AllCharacters cs → HasWritingIn (fold (λ v c. after_character v around is_code c) w cs)
     run-has [] w around is_code h a f = h
     run-has (c ∷ cs) w around is_code h a f =
         run-has cs (after_character w around is_code c) around is_code
@@ -439,7 +516,7 @@ module _ (k : Leaves) where
         by_latest Plain h = (h.0, along-before w.content w.around h.1)
         by_latest Code h = (h.0, along-before w.content w.around h.1, λ e. absurd (some w.anchors e))
 
-    fed-has : (w : Writing) (p : Part) → HasWriting w → HasPart at p → HasWriting (fed w p)
+    fed-has : (w : Writing) (p : Part) → HasWritingIn w → HasPartIn o at p → HasWritingIn (fed w p)
     fed-has w (run s around is_code) h g = run-has (chars s) w around is_code h g.1 g.0
     fed-has w (picture address title description around) h g =
         leaf-has w around false (image address title description) h g.1 g.0 tt (λ i. absurd (cc))
@@ -451,17 +528,40 @@ module _ (k : Leaves) where
     fed-has w edge h g = edged-has w h
     fed-has w (whole b) h g = blocked-has w b h g
 
+    pub all-fed-in : (w : Writing) (ps : List Part) → HasWritingIn w → AllPartsIn o at ps
+        → HasWritingIn (fed_all w ps)
+    all-fed-in w [] h g = h
+    all-fed-in w (p ∷ ps) h g = all-fed-in (fed w p) ps (fed-has w p h g.0) g.1
+
+    pub writing-inside : (w : Writing) → HasWritingIn w → HaveInside o at (blocks_in w)
+    writing-inside w h = of-blocks o at (ended w).done (ended-has w h).done
+
+    pub parts-inside : (in_item : Bool) (ps : List Part) → AllPartsIn o at ps
+        → HaveInside o at (blocks_of in_item ps)
+    parts-inside in_item ps h =
+        writing-inside (fed_all (begun in_item false) ps)
+        (all-fed-in (begun in_item false) ps (begun-in in_item false) h)
+
+    pub parts-line-in : (ps : List Part) → AllPartsIn o at ps → HasWhole (line_of ps)
+    parts-line-in ps h =
+        whole-has (fed_all (begun false true) ps) (all-fed-in (begun false true) ps (begun-in false true) h)
+
+  -- elsewhere
+  module _ (spaces : k.character space ≡ true) (at : ℕ) where
+    abbrev pub HasWriting : Writing → Type 0
+    HasWriting w = HasWritingIn spaces in_flow refl at w
+
+    pub begun-has : (in_item is_flat : Bool) → HasWriting (begun in_item is_flat)
+    begun-has in_item is_flat = begun-in spaces in_flow refl at in_item is_flat
+
     pub all-fed : (w : Writing) (ps : List Part) → HasWriting w → AllParts at ps → HasWriting (fed_all w ps)
-    all-fed w [] h g = h
-    all-fed w (p ∷ ps) h g = all-fed (fed w p) ps (fed-has w p h g.0) g.1
+    all-fed w ps h g = all-fed-in spaces in_flow refl at w ps h g
 
     pub writing-blocks : (w : Writing) → HasWriting w → HaveBlocks at (blocks_in w)
-    writing-blocks w h = of-blocks at (ended w).done (ended-has w h).done
+    writing-blocks w h = writing-inside spaces in_flow refl at w h
 
     pub parts-blocks : (in_item : Bool) (ps : List Part) → AllParts at ps → HaveBlocks at (blocks_of in_item ps)
-    parts-blocks in_item ps h =
-        writing-blocks (fed_all (begun in_item false) ps) (all-fed (begun in_item false) ps (begun-has in_item false) h)
+    parts-blocks in_item ps h = parts-inside spaces in_flow refl at in_item ps h
 
     pub parts-line : (ps : List Part) → AllParts at ps → HasWhole (line_of ps)
-    parts-line ps h =
-        whole-has (fed_all (begun false true) ps) (all-fed (begun false true) ps (begun-has false true) h)
+    parts-line ps h = parts-line-in spaces in_flow refl at ps h

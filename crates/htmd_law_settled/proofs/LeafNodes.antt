@@ -14,7 +14,7 @@ use Rattle.htmd_document.specs.FlatDocuments.{flattened}
 use Rattle.htmd_document.specs.TightItems.{is_tight_item}
 use Rattle.htmd_document.specs.Documents as documents
 use Rattle.htmd_lexical.proofs.Cases.{test}
-use Rattle.htmd_flow.specs.Contexts.{Context, is_lined, deeper, apart, in_one_line}
+use Rattle.htmd_flow.specs.Contexts.{Context, has_elements, is_lined, deeper, apart, in_one_line}
 use Rattle.htmd_flow.specs.Flows.{Node, Row, TermPart, gap, of_node, is_item, before_items, behind_item, item_of}
 use Rattle.htmd_flow.specs.Flows.{items_of, each_whole, list_parts, goes_on, items_in_a_row, flow_all, flow_after}
 use Rattle.htmd_flow.specs.Flows.{block_part, has_role, beside_terms, within_item, Terms, no_terms, item_with}
@@ -23,7 +23,7 @@ use Rattle.htmd_flow.specs.Flows.{with_term, with_parts, after_node, with_node, 
 use Rattle.htmd_flow.specs.Flows.{list_of_terms, term_parts, is_grid, caption_in_one_line, captions_in_one_line}
 use Rattle.htmd_flow.specs.Flows.{cell_in_one_line, row_in_one_line, rows_in_one_line, before_row, grid_in_one_line}
 use Rattle.htmd_flow.specs.Flows.{caption_apart, captions_among, cell_of, row_of, filled_rows, table_block, grid_inside}
-use Rattle.htmd_flow.specs.Flows.{table_parts}
+use Rattle.htmd_flow.specs.Flows.{table_parts, content_shows}
 use Rattle.htmd_flow.specs.Grids as grid
 use Rattle.htmd_flow.specs.Lists.{ListItem, are_filled, list_of, numbered, start_of, Groups, groups_at, with_number}
 use Rattle.htmd_flow.specs.Lists.{from_one, greatest_in, is_close, is_lone, is_tight, holds_paragraph}
@@ -33,14 +33,13 @@ use Rattle.htmd_flow.specs.Parts.{Part, run, edge, whole}
 use Rattle.htmd_shown.specs.Kinds.{has}
 use Rattle.htmd_shown.specs.Roles as roles
 use Rattle.htmd_shown.specs.SimpleTrees.{Simple}
-use Rattle.htmd_law_rendering.specs.PlainReadings.{blocks_have_no_elements, items_have_no_elements}
-use Rattle.htmd_law_rendering.proofs.DocumentLemmas.{same-flat}
 use Rattle.htmd_law_returning.specs.SettledDocuments.{is_right_list, are_tight_items, stay_tight, show_loose}
-use Rattle.htmd_law_returning.specs.SettledDocuments.{has_fitting_numbers, shows_last_column}
+use Rattle.htmd_law_returning.specs.SettledDocuments.{has_fitting_numbers, shows_last_column, shows_header}
 use Rattle.htmd_law_settled.specs.Leaves.{Leaves}
 use Rattle.htmd_law_settled.proofs.LastColumns.{last-shown}
+use Rattle.htmd_law_settled.proofs.ShownHeaders.{FillsCells, FillsBlocks}
 use Rattle.htmd_law_settled.proofs.LeafLines.{AllCharacters, HasWhole, nothing-whole, HaveCells, HaveRows, HasBlock}
-use Rattle.htmd_law_settled.proofs.LeafLines.{HaveBlocks, HaveItems}
+use Rattle.htmd_law_settled.proofs.LeafLines.{HaveBlocks, HaveItems, AllowsElements}
 use Rattle.htmd_law_settled.proofs.LeafLines.{AllAround, AllParts, HasWriting, begun-has, all-fed, writing-blocks}
 use Rattle.htmd_law_settled.proofs.LeafLines.{parts-blocks, parts-line}
 use lib.Utf8.{encode}
@@ -63,11 +62,18 @@ module _ (k : Leaves) where
 
   -- ---- nodes
 
+  -- a table whose last column shows may be so, in a rich document if something shows in its header
+  abbrev pub MayHaveTables : Bool → Type 0
+  MayHaveTables is_rich = (header : List Inlines) (rows : List (List Inlines))
+      → shows_last_column header rows ≡ true
+      → (is_rich ≡ true → shows_header header ≡ true) → k.table header rows ≡ true
+
   -- elements in rich documents alone, such formats and links around, and so many lists and quotes
   pub record FitsIn (at : ℕ) (c : Context) : Type 0 where
     pub around : AllAround k c.around
-    pub rich : c.is_rich ≡ true → k.elements ≡ true
+    pub rich : c.is_rich ≡ true → AllowsElements k
     pub nested : c.nested ≡ at
+    pub tables : MayHaveTables c.is_rich
 
   abbrev pub Gives : (Context → List Part) → Type 0
   Gives parts = (at : ℕ) (c : Context) → FitsIn at c → AllParts k at (parts c)
@@ -75,16 +81,18 @@ module _ (k : Leaves) where
   pub record HasNode (n : Node) : Type 0 where
     pub whole : Gives n.whole
     pub content : Gives n.content
+    pub shown : FillsCells (content_shows n.tree) n.content
+    pub filled : has roles.is_figure_caption n.tree ≡ true → FillsBlocks (content_shows n.tree) n.content
 
   abbrev pub AllNodes : List Node → Type 0
   AllNodes [] = Unit {0}
   AllNodes (n ∷ nodes) = HasNode n × AllNodes nodes
 
   pub deeper-fits : (at : ℕ) (c : Context) → FitsIn at c → FitsIn (suc at) (deeper c)
-  deeper-fits at c f = record { around = f.around; rich = f.rich; nested = ap suc f.nested }
+  deeper-fits at c f = record { around = f.around; rich = f.rich; nested = ap suc f.nested; tables = f.tables }
 
   pub line-fits : (at : ℕ) (c : Context) → FitsIn at c → FitsIn at (in_one_line c)
-  line-fits at c f = record { around = f.around; rich = f.rich; nested = f.nested }
+  line-fits at c f = record { around = f.around; rich = f.rich; nested = f.nested; tables = f.tables }
 
   -- ---- lists
 
@@ -108,12 +116,9 @@ module _ (k : Leaves) where
   list-count (i ∷ items) = ap suc (list-count items)
 
   -- an item by which a list isn't tight shows that it is loose
-  item-shows : (i : ListItem) → blocks_have_no_elements i.blocks ≡ true → is_close i ≡ false
-      → (holds_paragraph i.blocks || not (is_tight_item i.blocks)) ≡ true
-  item-shows i h e =
-      by (holds_paragraph i.blocks) (is_tight_item i.blocks) i.has_paragraph
-      (sym (ap (λ bs. not (i.has_paragraph && holds_paragraph i.blocks) && is_tight_item bs)
-      (same-flat i.blocks h)) ∙ e)
+  item-shows : (i : ListItem) → is_close i ≡ false
+      → (holds_paragraph i.blocks || not (is_tight_item (flattened i.blocks))) ≡ true
+  item-shows i e = by (holds_paragraph i.blocks) (is_tight_item (flattened i.blocks)) i.has_paragraph e
     where
       by : (p t has : Bool) → (not (has && p) && t) ≡ false → (p || not t) ≡ true
       by true t has e = refl
@@ -121,50 +126,42 @@ module _ (k : Leaves) where
       by false true false e = absurd (true≢false e)
       by false true true e = absurd (true≢false e)
 
-  all-show : (items : List ListItem) → items_have_no_elements (items_in items) ≡ true
-      → list_all is_close items ≡ false → show_loose (items_in items) ≡ true
-  all-show [] h e = absurd (true≢false e)
-  all-show (i ∷ items) h e =
-      let first : Bool = holds_paragraph i.blocks || not (is_tight_item i.blocks) in
-      let p = and_parts (blocks_have_no_elements i.blocks) (items_have_no_elements (items_in items)) h in
+  all-show : (items : List ListItem) → list_all is_close items ≡ false → show_loose (items_in items) ≡ true
+  all-show [] e = absurd (true≢false e)
+  all-show (i ∷ items) e =
+      let first : Bool = holds_paragraph i.blocks || not (is_tight_item (flattened i.blocks)) in
       test (is_close i)
       (λ q.
-      ap (λ b. first || b) (all-show items p.1 (sym (ap (λ b. b && list_all is_close items) q) ∙ e))
-      ∙ or_right first true refl) (λ q. ap (λ b. b || show_loose (items_in items)) (item-shows i p.0 q))
+      ap (λ b. first || b) (all-show items (sym (ap (λ b. b && list_all is_close items) q) ∙ e))
+      ∙ or_right first true refl) (λ q. ap (λ b. b || show_loose (items_in items)) (item-shows i q))
 
   -- items by which a list is tight may stand in one
-  all-tight : (items : List ListItem) → items_have_no_elements (items_in items) ≡ true
-      → list_all is_close items ≡ true → are_tight_items (items_in items) ≡ true
-  all-tight [] h e = refl
-  all-tight (i ∷ items) h e =
-      let p = and_parts (blocks_have_no_elements i.blocks) (items_have_no_elements (items_in items)) h in
+  all-tight : (items : List ListItem) → list_all is_close items ≡ true → are_tight_items (items_in items) ≡ true
+  all-tight [] e = refl
+  all-tight (i ∷ items) e =
       let parts = and_parts (is_close i) (list_all is_close items) e in
       let own = and_parts (not (i.has_paragraph && holds_paragraph i.blocks)) (is_tight_item (flattened i.blocks))
       parts.0 in
-      and_from (is_tight_item i.blocks) (are_tight_items (items_in items))
-      (sym (ap is_tight_item (same-flat i.blocks p.0)) ∙ own.1)
-      (all-tight items p.1 parts.1)
+      and_from (is_tight_item (flattened i.blocks)) (are_tight_items (items_in items)) own.1 (all-tight items parts.1)
 
-  close-stay : (items : List ListItem) → items_have_no_elements (items_in items) ≡ true
-      → list_all is_close items ≡ true → stay_tight (items_in items) ≡ true
-  close-stay [] h e = refl
-  close-stay (i ∷ []) h e = refl
-  close-stay (i ∷ j ∷ items) h e = all-tight (i ∷ j ∷ items) h e
+  close-stay : (items : List ListItem) → list_all is_close items ≡ true → stay_tight (items_in items) ≡ true
+  close-stay [] e = refl
+  close-stay (i ∷ []) e = refl
+  close-stay (i ∷ j ∷ items) e = all-tight (i ∷ j ∷ items) e
 
   lone-stays : (items : List ListItem) → is_lone items ≡ true → stay_tight (items_in items) ≡ true
   lone-stays [] e = refl
   lone-stays (i ∷ []) e = refl
   lone-stays (i ∷ j ∷ items) e = absurd (true≢false (sym e))
 
-  right-list : (items : List ListItem) → items_have_no_elements (items_in items) ≡ true
-      → is_right_list (is_tight items) (items_in items) ≡ true
-  right-list items h = by (is_lone items) (list_all is_close items) refl refl
+  right-list : (items : List ListItem) → is_right_list (is_tight items) (items_in items) ≡ true
+  right-list items = by (is_lone items) (list_all is_close items) refl refl
     where
       by : (lone close : Bool) → is_lone items ≡ lone → list_all is_close items ≡ close
           → is_right_list (lone || close) (items_in items) ≡ true
       by true close l e = lone-stays items l
-      by false true l e = close-stay items h e
-      by false false l e = all-show items h e
+      by false true l e = close-stay items e
+      by false false l e = all-show items e
 
   list-has : (at : ℕ) (start : Option ℕ) (items : List ListItem) → AllItems (suc at) items
       → has_fitting_numbers at start (length items) ≡ true → AllParts k at (list_of start items ∷ [])
@@ -613,7 +610,7 @@ module _ (k : Leaves) where
 
     pub table-of-has : (at : ℕ) (alignments : List Alignment) (has_header : Bool) (lines : List (List Inlines))
         → HaveRows k lines
-        → ((grid.width lines == 0) ≡ false → shows_last_column (grid.padded (grid.width lines)
+        → ((grid.width lines == 0) ≡ false → k.table (grid.padded (grid.width lines)
         (if has_header then get_or lines 0 [] else [])) (grid.body (if has_header then drop 1 lines else lines))
         ≡ true)
         → HasOption at (grid.table_of alignments has_header lines)
@@ -635,21 +632,23 @@ module _ (k : Leaves) where
           shown e,
         ))
 
-    rows-table : (at : ℕ) (rows : List grid.Row) → RowsOf rows → HasOption at (grid.table_of_rows rows)
-    rows-table at [] h = tt
-    rows-table at (first ∷ rows) h =
+    rows-table : (at : ℕ) (rows : List grid.Row) → MayHaveTables false → RowsOf rows
+        → HasOption at (grid.table_of_rows rows)
+    rows-table at [] may h = tt
+    rows-table at (first ∷ rows) may h =
         table-of-has at (grid.alignments_of first) (grid.begins_with_header first)
         (map grid.trimmed_row (grid.grid (first ∷ rows)))
         (all-trimmed (grid.grid (first ∷ rows)) (grid-has (first ∷ rows) h))
-        (λ e. last-shown (grid.begins_with_header first) (grid.grid (first ∷ rows)) e)
+        (λ e. may _ _ (last-shown (grid.begins_with_header first) (grid.grid (first ∷ rows)) e)
+        (λ r. absurd (true≢false (sym r))))
 
     pub option-part : (at : ℕ) (o : Option Block) → HasOption at o → AllParts k at (block_part o)
     option-part at None h = tt
     option-part at (Some b) h = (h, tt)
 
-    inside-has : (nodes : List Node) (rows : List Row) → AllNodes nodes → AllRows rows
-        → Gives (grid_inside nodes rows)
-    inside-has nodes rows h g at c f =
+    inside-has : (nodes : List Node) (rows : List Row) → AllNodes nodes → AllRows rows → (at : ℕ) (c : Context)
+        → FitsIn at c → MayHaveTables false → AllParts k at (grid_inside nodes rows c)
+    inside-has nodes rows h g at c f may =
         let n : ℕ = before_row nodes in
         let first : List Part = captions_among (take n nodes) c in
         let last : List Part = captions_among (drop n nodes) c in
@@ -661,17 +660,26 @@ module _ (k : Leaves) where
         (each-gives caption_apart apart-caption (take n nodes) (nodes-take n nodes h) at c f) (
           tt,
           option-part at (table_block rows c)
-              (rows-table at (filled_rows made) (rows-filled made (rows-of at c f rows g))),
+              (rows-table at (filled_rows made) may (rows-filled made (rows-of at c f rows g))),
         ))
         (tt, each-gives caption_apart apart-caption (drop n nodes) (nodes-drop n nodes h) at c f)) (tt, tt)
 
+    unrich : (is_rich is_flat : Bool) → (is_rich && not is_flat) ≡ false → is_flat ≡ false → is_rich ≡ false
+    unrich true false e f = e
+    unrich true true e f = absurd (true≢false f)
+    unrich false is_flat e f = refl
+
+    -- where there are no elements
     pub table-has : (trees : List Simple) (nodes : List Node) (rows : List Row) → AllNodes nodes → AllRows rows
-        → Gives (table_parts trees nodes rows)
-    table-has trees nodes rows h g at c f =
+        → (at : ℕ) (c : Context) → FitsIn at c → has_elements c ≡ false
+        → AllParts k at (table_parts trees nodes rows c)
+    table-has trees nodes rows h g at c f plain =
         let inside : List Part = if c.is_flat then grid_in_one_line nodes rows c else grid_inside nodes rows c in
-        either-parts at (is_grid trees rows) (edge ∷ inside) (apart (flow_all nodes c)) (
-          tt,
-          either-parts at c.is_flat (grid_in_one_line nodes rows c) (grid_inside nodes rows c)
-              (one-line-has nodes rows h g at c f) (inside-has nodes rows h g at c f),
-        )
-        (apart-has at (flow_all nodes c) (flow-has nodes h at c f))
+        either-parts at (is_grid trees rows) (edge ∷ inside) (apart (flow_all nodes c))
+        (tt, by-flat c.is_flat refl) (apart-has at (flow_all nodes c) (flow-has nodes h at c f))
+      where
+        by-flat : (b : Bool) → c.is_flat ≡ b
+            → AllParts k at (if b then grid_in_one_line nodes rows c else grid_inside nodes rows c)
+        by-flat true e = one-line-has nodes rows h g at c f
+        by-flat false e =
+            inside-has nodes rows h g at c f (subst MayHaveTables (unrich c.is_rich c.is_flat plain e) f.tables)

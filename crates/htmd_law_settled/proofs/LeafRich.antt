@@ -1,16 +1,21 @@
 -- Elements of rich documents whose leaves are of a kind.
-use Rattle.std.proofs.Common.{◌≡◌, ℕ, Bool, true, false, not, List, [], ◌∷◌, ◌++◌, map, fold, length, Option}
-use Rattle.std.proofs.Common.{Some, None, sym, subst}
+use Rattle.std.proofs.Common.{◌≡◌, ℕ, Bool, true, false, not, List, [], ◌∷◌, ◌++◌, map, fold, length}
+use Rattle.std.proofs.Common.{Option}
+use Rattle.std.proofs.Common.{Some, None, refl, sym, ap, ◌∙◌, subst, get_or, codes}
 use Rattle.std.specs.Prelude.{if◌then◌else◌, nat_lt, filter, ◌&&◌, ◌||◌}
+use Rattle.std.specs.Fmt.{decimal}
 use Rattle.std.specs.List.{list_any}
-use Rattle.std.proofs.lemmas.Bool.{and_parts}
+use Rattle.std.proofs.lemmas.Bool.{and_from, and_parts, not-true}
 use Rattle.htmd_lexical.specs.AttributePairs.{AttributePair}
 use Rattle.htmd_lexical.specs.Characters.{space}
 use Rattle.htmd_lexical.proofs.Cases.{test}
+use Rattle.htmd_document.specs.declared.document.AttributeName.{AttributeName}
+use Rattle.htmd_document.specs.declared.document.AttributeName.TheVariants as attribute
 use Rattle.htmd_document.specs.declared.document.BlockElement.{BlockElement}
 use Rattle.htmd_document.specs.declared.document.BlockElement.TheVariants as name
 use Rattle.htmd_document.specs.Documents.{Inlines, Block, paragraph, Blocks, no_blocks, block, BlockAttribute}
 use Rattle.htmd_document.specs.Documents as document
+use Rattle.htmd_shown.specs.Attributes.{has_attribute}
 use Rattle.htmd_shown.specs.declared.role.Role.TheVariants as role
 use Rattle.htmd_shown.specs.Kinds.{has, content_of}
 use Rattle.htmd_shown.specs.Roles as roles
@@ -18,25 +23,83 @@ use Rattle.htmd_shown.specs.Showings.{shows, show_usual_sign}
 use Rattle.htmd_shown.specs.SimpleTrees.{Simple, Simples, element}
 use Rattle.htmd_flow.specs.Contexts.{Context, has_elements, unlinked, is_linked_to_part, apart}
 use Rattle.htmd_flow.specs.Flows.{Node, TablePiece, of_caption, of_row, TermPart, gap, of_node, blocks_of}
-use Rattle.htmd_flow.specs.Flows.{flow_all, element_part, around_title, around_node, within, blocks_within, is_title_of}
-use Rattle.htmd_flow.specs.Flows.{title_element, as_title, titled, open_attribute, shows_title, figure_by, captioned}
+use Rattle.htmd_flow.specs.Flows.{flow_all, element_part, around_title, around_node, within, blocks_within}
+use Rattle.htmd_flow.specs.Flows.{titled, open_attribute, shows_title, figure_by, captioned}
 use Rattle.htmd_flow.specs.Flows.{Description, Descriptions, no_descriptions, description_with}
 use Rattle.htmd_flow.specs.Flows.{onto_last_description, ends_with_term, before_more, with_between, with_described}
 use Rattle.htmd_flow.specs.Flows.{with_description, description_element, is_filled_description}
 use Rattle.htmd_flow.specs.Flows.{element_of_descriptions, described_parts, stays, kept_pieces, have_row_spans, rows_in}
 use Rattle.htmd_flow.specs.Flows.{has_border, is_headed, is_for_page, in_cell, cell_with_blocks, piece_with_blocks}
 use Rattle.htmd_flow.specs.Flows.{pieces_with_blocks, table_with_blocks, kept_table_parts, rich_table_parts, block_part}
-use Rattle.htmd_flow.specs.Grids.{trimmed_row}
-use Rattle.htmd_flow.specs.Paragraphs.{begun}
-use Rattle.htmd_flow.specs.Parts.{Part, edge, whole}
+use Rattle.htmd_flow.specs.Flows.{attributes_of}
+use Rattle.htmd_flow.specs.Grids.{trimmed_row, width}
+use Rattle.htmd_flow.specs.Paragraphs.{begun, blocks_in}
+use Rattle.htmd_flow.specs.Parts.{Part, edge}
 use Rattle.htmd_flow.specs.TableElements as elements
+use Rattle.htmd_law_settled.proofs.LeafLines.{AllowsElements}
+use Rattle.htmd_law_settled.specs.NeatLeaves.{has_neat_attributes, is_neat_element, is_neat_cell, is_neat_table}
+use Rattle.htmd_law_settled.proofs.NeatTables.{table-neat}
+use Rattle.htmd_law_settled.proofs.CellAttributes.{IsWide, is-wide, cell-neat}
+use Rattle.htmd_law_returning.specs.SettledDocuments.{has_filled_element}
 use Rattle.htmd_law_settled.specs.Leaves.{Leaves}
+use Rattle.htmd_law_returning.specs.SettledDocuments.{shows_header}
 use Rattle.htmd_law_settled.proofs.LastColumns.{last-shown}
+use Rattle.htmd_law_settled.proofs.ShownHeaders.{FillNodes, FillPieces, header-shown, first-line}
+use Rattle.htmd_law_settled.specs.StandingElements.{in_flow, in_terms, in_table, in_row, inside, stands_in, in_details}
+use Rattle.htmd_law_settled.specs.StandingElements.{in_figure}
+use Rattle.htmd_law_settled.proofs.LeafLines.{are_different}
 use Rattle.htmd_law_settled.proofs.LeafLines.{HasWhole, nothing-whole, HaveCells, HaveRows, HaveBlocks, AllParts}
+use Rattle.htmd_law_settled.proofs.LeafLines.{IsElement, HaveInside}
 use Rattle.htmd_law_settled.proofs.LeafLines.{HasWriting, begun-has, all-fed, writing-blocks, parts-blocks}
-use Rattle.htmd_law_settled.proofs.LeafNodes.{parts-append, either-parts, apart-has, FitsIn, Gives, HasNode, AllNodes}
-use Rattle.htmd_law_settled.proofs.LeafNodes.{flow-has, AllTerms, HasOption, table-of-has, option-part, all-trimmed}
+use Rattle.htmd_law_settled.proofs.FigureCaptions.{figure-captioned}
+use Rattle.htmd_law_settled.proofs.LeafTitles.{summaries-in, captions-in, captions-gone}
+use Rattle.htmd_law_settled.proofs.LeafLines.{parts-inside}
+use Rattle.htmd_law_settled.proofs.LeafNodes.{parts-append, apart-has, FitsIn, Gives, HasNode, AllNodes}
+use Rattle.htmd_law_settled.proofs.LeafNodes.{MayHaveTables, flow-has, AllTerms, HasOption, table-of-has, option-part}
+use Rattle.htmd_law_settled.proofs.LeafNodes.{all-trimmed}
 use Rattle.htmd_law_settled.proofs.LeafContexts.{either-fits, unlinked-fits, beside-fits}
+
+-- ---- attributes
+
+one-different : (b : Bool) (a : AttributeName) (s : List ℕ)
+    → are_different (if b then elements.attribute_with a s else []) ≡ true
+one-different true a s = refl
+one-different false a s = refl
+
+spans-different : (b d : Bool) (s t : List ℕ) (o : Option (List ℕ))
+    → are_different (((if b then elements.attribute_with attribute.ColumnSpan s else [])
+    ++ (if d then elements.attribute_with attribute.RowSpan t else [])) ++ elements.attribute_if attribute.Align o)
+    ≡ true
+spans-different true true s t None = refl
+spans-different true true s t (Some u) = refl
+spans-different true false s t None = refl
+spans-different true false s t (Some u) = refl
+spans-different false true s t None = refl
+spans-different false true s t (Some u) = refl
+spans-different false false s t None = refl
+spans-different false false s t (Some u) = refl
+
+open-neat : (attributes : List AttributePair) → has_neat_attributes name.Details (open_attribute attributes) ≡ true
+open-neat attributes = by (has_attribute (codes "open") attributes)
+  where
+    by : (b : Bool)
+        → has_neat_attributes name.Details (if b then elements.attribute_with attribute.Open [] else []) ≡ true
+    by true = refl
+    by false = refl
+
+header-has : (attributes : List BlockAttribute) → is_neat_cell attributes ≡ true
+    → has_neat_attributes name.HeaderCell attributes ≡ true
+header-has [] h = refl
+header-has (a ∷ rest) h = h
+
+cell-has : (attributes : List BlockAttribute) → is_neat_cell attributes ≡ true
+    → has_neat_attributes name.Cell attributes ≡ true
+cell-has [] h = refl
+cell-has (a ∷ rest) h = h
+
+border-neat : (b : Bool) → has_neat_attributes name.Table (elements.border_attribute b) ≡ true
+border-neat true = refl
+border-neat false = refl
 
 module _ (k : Leaves) where
   -- captions and rows of a table
@@ -48,7 +111,7 @@ module _ (k : Leaves) where
   -- a table's, once they are made
   abbrev CellsMade : ℕ → List elements.Cell → Type 0
   CellsMade at [] = Unit {0}
-  CellsMade at (c ∷ cells) = HaveBlocks k at c.content × CellsMade at cells
+  CellsMade at (c ∷ cells) = (HaveBlocks k at c.content × IsWide c.columns) × CellsMade at cells
 
   abbrev PiecesMade : ℕ → List elements.Piece → Type 0
   PiecesMade at [] = Unit {0}
@@ -58,13 +121,13 @@ module _ (k : Leaves) where
   module _ (spaces : k.character space ≡ true) where
     -- what is an element where there are some
     pub richly : (at : ℕ) (c : Context) → FitsIn k at c → (ps qs : List Part)
-        → (k.elements ≡ true → AllParts k at ps)
-        → AllParts k at qs → AllParts k at (if has_elements c then ps else qs)
+        → (AllowsElements k → has_elements c ≡ true → AllParts k at ps)
+        → (has_elements c ≡ false → AllParts k at qs) → AllParts k at (if has_elements c then ps else qs)
     richly at c f ps qs g h =
         test (has_elements c)
         (λ e. subst (λ (b : Bool). AllParts k at (if b then ps else qs)) (sym e)
-        (g (f.rich (and_parts c.is_rich (not c.is_flat) e).0)))
-        (λ e. subst (λ (b : Bool). AllParts k at (if b then ps else qs)) (sym e) h)
+        (g (f.rich (and_parts c.is_rich (not c.is_flat) e).0) e))
+        (λ e. subst (λ (b : Bool). AllParts k at (if b then ps else qs)) (sym e) (h e))
 
     abbrev HaveDescriptions : ℕ → List Description → Type 0
     HaveDescriptions at [] = Unit {0}
@@ -74,12 +137,14 @@ module _ (k : Leaves) where
       before : AllParts k at d.before
       begun : HaveDescriptions at d.begun
 
-    module _ (rich : k.elements ≡ true) where
+    module _ (rich : AllowsElements k) where
       element-has : (at : ℕ) (n : BlockElement) (attributes : List BlockAttribute) (bs : Blocks)
-          → HaveBlocks k at bs
+          → stands_in in_flow n ≡ true → is_neat_element n attributes bs ≡ true
+          → are_different attributes ≡ true → HaveInside k (inside n) at bs
           → AllParts k at (element_part n attributes bs)
-      element-has at n attributes no_blocks h = tt
-      element-has at n attributes (block b bs) h = ((rich, h), tt)
+      element-has at n attributes no_blocks e neat d h = tt
+      element-has at n attributes (block b bs) e neat d h =
+          ((rich n attributes (block b bs) neat, e, d, h), tt)
 
       -- ---- titles
 
@@ -99,43 +164,30 @@ module _ (k : Leaves) where
           → HaveBlocks k at (blocks_within n c)
       blocks-within n h at c f = parts-blocks k spaces at false (within n c) (within-has n h at c f)
 
-      title-has : (title : BlockElement) (n : Node) → HasNode k n → Gives k (title_element title n)
-      title-has title n h at c f =
-          apart-has k at (element_part title [] (blocks_within n c))
-          (element-has at title [] (blocks_within n c) (blocks-within n h at c f))
-
-      either-node : (b : Bool) (n m : Node) → HasNode k n → HasNode k m → HasNode k (if b then n else m)
-      either-node true n m g h = g
-      either-node false n m g h = h
-
-      titles-have : (title : BlockElement) (nodes : List Node) → AllNodes k nodes
-          → AllNodes k (map (as_title title) nodes)
-      titles-have title [] h = tt
-      titles-have title (n ∷ nodes) h = (
-        either-node (has (is_title_of title) n.tree) (record n { whole = title_element title n }) n
-            (record { whole = title-has title n h.0; content = h.0.content }) h.0,
-        titles-have title nodes h.1,
-      )
-
-      titled-has : (title : BlockElement) (nodes : List Node) → AllNodes k nodes → Gives k (titled title nodes)
-      titled-has title nodes h = flow-has k spaces (map (as_title title) nodes) (titles-have title nodes h)
-
-      pub details-has : (attributes : List AttributePair) (nodes : List Node) → AllNodes k nodes
-          → Gives k (λ c. element_part name.Details (open_attribute attributes)
+      pub details-has : (attributes : List AttributePair) (nodes : List Node) → AllNodes k nodes → (at : ℕ)
+          (c : Context) → FitsIn k at c → has_elements c ≡ true
+          → AllParts k at (element_part name.Details (open_attribute attributes)
           (blocks_of false (titled name.Summary nodes c)))
-      details-has attributes nodes h at c f =
-          element-has at name.Details (open_attribute attributes) (blocks_of false (titled name.Summary nodes c))
-          (parts-blocks k spaces at false (titled name.Summary nodes c) (titled-has name.Summary nodes h at c f))
+      details-has attributes nodes h at c f e =
+          let ps : List Part = titled name.Summary nodes c in
+          element-has at name.Details (open_attribute attributes) (blocks_of false ps) refl
+          (open-neat attributes) (one-different (has_attribute (codes "open") attributes) attribute.Open [])
+          (parts-inside k spaces in_details refl at false ps
+          (summaries-in k rich blocks-within spaces nodes h at c f e))
 
-      by-caption : (at : ℕ) (b : Bool) (ps : List Part) → AllParts k at ps → AllParts k at (figure_by b ps)
-      by-caption at true ps h =
-          element-has at name.Figure [] (blocks_of false ps) (parts-blocks k spaces at false ps h)
-      by-caption at false ps h = h
-
-      pub figure-has : (nodes : List Node) → AllNodes k nodes → Gives k (captioned nodes)
-      figure-has nodes h at c f =
-          by-caption at (list_any (λ (n : Node). shows_title name.FigureCaption n.tree) nodes)
-          (titled name.FigureCaption nodes c) (titled-has name.FigureCaption nodes h at c f)
+      pub figure-has : (nodes : List Node) → AllNodes k nodes → (at : ℕ) (c : Context) → FitsIn k at c
+          → has_elements c ≡ true → AllParts k at (captioned nodes c)
+      figure-has nodes h at c f e =
+          by-caption (list_any (λ (n : Node). shows_title name.FigureCaption n.tree) nodes) refl
+        where
+          by-caption : (b : Bool) → list_any (λ (n : Node). shows_title name.FigureCaption n.tree) nodes ≡ b
+              → AllParts k at (figure_by b (titled name.FigureCaption nodes c))
+          by-caption true q =
+              let ps : List Part = titled name.FigureCaption nodes c in
+              element-has at name.Figure [] (blocks_of false ps) refl (figure-captioned k nodes h q c e) refl
+              (parts-inside k spaces in_figure refl at false ps
+              (captions-in k rich blocks-within spaces nodes h at c f e))
+          by-caption false q = captions-gone k spaces nodes h q at c f e
 
       -- ---- terms
 
@@ -209,11 +261,32 @@ module _ (k : Leaves) where
         all-described c f (of_node n ∷ parts) d h g =
             all-described c f parts (with_described c d n) h.1 (node-described c f d n h.0 g)
 
+        description-is : (is_term : Bool) (bs : Blocks) → HaveBlocks k at bs
+            → IsElement k in_terms at (if is_term then name.Term else name.Meaning) [] bs
+        description-is true bs h = (rich name.Term [] bs refl, refl, refl, h)
+        description-is false bs h = (rich name.Meaning [] bs refl, refl, refl, h)
+
         descriptions-blocks : (ds : List Description) → HaveDescriptions at ds
-            → HaveBlocks k at (document.blocks_of (map description_element ds))
+            → HaveInside k in_terms at (document.blocks_of (map description_element ds))
         descriptions-blocks [] h = tt
-        descriptions-blocks (d ∷ ds) h =
-            ((rich, writing-blocks k spaces at d.content h.0), descriptions-blocks ds h.1)
+        descriptions-blocks (d ∷ ds) h = (
+          description-is d.is_term (blocks_in d.content) (writing-blocks k spaces at d.content h.0),
+          descriptions-blocks ds h.1,
+        )
+
+      -- something stands in one of them
+      filled-terms : (ds : List Description)
+          → has_filled_element (document.blocks_of (map description_element ds)) ≡ list_any is_filled_description ds
+      filled-terms [] = refl
+      filled-terms (d ∷ ds) = ap (λ b. is_filled_description d || b) (filled-terms ds)
+
+      made-has : (at : ℕ) (ds : List Description) → HaveDescriptions at ds
+          → AllParts k at (element_of_descriptions ds)
+      made-has at ds h =
+          let all : Blocks = document.blocks_of (map description_element ds) in
+          test (list_any is_filled_description ds)
+          (λ t. rw t ((rich name.Terms [] all (filled-terms ds ∙ t), refl, refl, descriptions-blocks at ds h), tt))
+          (λ t. rw t tt)
 
       pub described-has : (parts : List TermPart) → AllTerms k spaces parts → Gives k (described_parts parts)
       described-has parts h at c f =
@@ -221,16 +294,22 @@ module _ (k : Leaves) where
           let g = all-described at c f parts no_descriptions h (record { before = tt; begun = tt }) in
           let made : List Part = element_of_descriptions d.begun in
           parts-append k at (edge ∷ d.before) (apart made) (tt, g.before)
-          (apart-has k at made
-          (either-parts k at (list_any is_filled_description d.begun)
-          (whole (document.element name.Terms [] (document.blocks_of (map description_element d.begun))) ∷ []) []
-          ((rich, descriptions-blocks at d.begun g.begun), tt) tt))
+          (apart-has k at made (made-has at d.begun g.begun))
 
       -- ---- tables
 
       in-cell-fits : (at : ℕ) (t : Simple) (c : Context) → FitsIn k at c → FitsIn k at (in_cell t c)
       in-cell-fits at (element id role.Cell facts attributes content) c f = beside-fits k at facts.pres attributes c f
       in-cell-fits at t c f = f
+
+      nodes-fill : (nodes : List Node) → AllNodes k nodes → FillNodes nodes
+      nodes-fill [] h = tt
+      nodes-fill (n ∷ nodes) h = (h.0.shown, nodes-fill nodes h.1)
+
+      all-fill : (pieces : List TablePiece) → AllPieces pieces → FillPieces pieces
+      all-fill [] h = tt
+      all-fill (of_caption n ∷ pieces) h = all-fill pieces h.1
+      all-fill (of_row r ∷ pieces) h = (nodes-fill r.cells h.0, all-fill pieces h.1)
 
       either-pieces : (b : Bool) (ps qs : List TablePiece) → AllPieces ps → AllPieces qs
           → AllPieces (if b then ps else qs)
@@ -253,8 +332,11 @@ module _ (k : Leaves) where
             → AllNodes k cells → CellsMade at (map (cell_with_blocks has_spans is_in_head c) cells)
         cells-made has_spans is_in_head c f [] h = tt
         cells-made has_spans is_in_head c f (n ∷ cells) h = (
-          parts-blocks k spaces at false (n.content (in_cell n.tree c))
-              (h.0.content at (in_cell n.tree c) (in-cell-fits at n.tree c f)),
+          (
+            parts-blocks k spaces at false (n.content (in_cell n.tree c))
+                (h.0.content at (in_cell n.tree c) (in-cell-fits at n.tree c f)),
+            is-wide (attributes_of n.tree),
+          ),
           cells-made has_spans is_in_head c f cells h.1,
         )
 
@@ -282,6 +364,10 @@ module _ (k : Leaves) where
 
         -- ---- GitHub's form
 
+        -- something shows in the first row
+        abbrev HeaderShows : List elements.Piece → Type 0
+        HeaderShows pieces = shows_header (get_or (map elements.line_of pieces) 0 []) ≡ true
+
         inlines-have : (bs : Blocks) → HaveBlocks k at bs → HasWhole k (elements.inlines_in bs)
         inlines-have no_blocks h = nothing-whole k
         inlines-have (block (paragraph content) bs) h = h.0
@@ -290,7 +376,7 @@ module _ (k : Leaves) where
         cell-lines : (cells : List elements.Cell) → CellsMade at cells
             → HaveCells k (map elements.cell_line cells)
         cell-lines [] h = tt
-        cell-lines (c ∷ cells) h = (inlines-have c.content h.0, cell-lines cells h.1)
+        cell-lines (c ∷ cells) h = (inlines-have c.content h.0.0, cell-lines cells h.1)
 
         piece-lines : (pieces : List elements.Piece) → PiecesMade at pieces
             → HaveRows k (map elements.line_of pieces)
@@ -298,47 +384,92 @@ module _ (k : Leaves) where
         piece-lines (elements.caption content ∷ pieces) h = (tt, piece-lines pieces h.1)
         piece-lines (elements.row r ∷ pieces) h = (cell-lines r.cells h.0, piece-lines pieces h.1)
 
-        lines-table : (pieces : List elements.Piece) → PiecesMade at pieces
+        lines-table : (pieces : List elements.Piece) → MayHaveTables k true → HeaderShows pieces
+            → PiecesMade at pieces
             → HasOption k spaces at (elements.table_of_lines pieces)
-        lines-table pieces h =
+        lines-table pieces may headed h =
             let lines : List (List Inlines) = map elements.line_of pieces in
             table-of-has k spaces at (elements.alignments_of pieces) true (map trimmed_row lines)
-            (all-trimmed k spaces lines (piece-lines pieces h)) (λ e. last-shown true lines e)
+            (all-trimmed k spaces lines (piece-lines pieces h))
+            (λ e. may _ _ (last-shown true lines e) (λ r. first-line (width (map trimmed_row lines)) lines headed))
 
         -- ---- elements
 
+        cell-is : (is_header : Bool) (attributes : List BlockAttribute) (bs : Blocks)
+            → is_neat_cell attributes ≡ true → are_different attributes ≡ true → HaveBlocks k at bs
+            → IsElement k in_row at (if is_header then name.HeaderCell else name.Cell) attributes bs
+        cell-is true attributes bs n d h = (rich name.HeaderCell attributes bs (header-has attributes n), refl, d, h)
+        cell-is false attributes bs n d h = (rich name.Cell attributes bs (cell-has attributes n), refl, d, h)
+
         cell-elements : (cells : List elements.Cell) → CellsMade at cells
-            → HaveBlocks k at (document.blocks_of (map elements.cell_element cells))
+            → HaveInside k in_row at (document.blocks_of (map elements.cell_element cells))
         cell-elements [] h = tt
-        cell-elements (c ∷ cells) h = ((rich, h.0), cell-elements cells h.1)
+        cell-elements (c ∷ cells) h =
+            let spans : List BlockAttribute =
+            elements.span_attribute attribute.ColumnSpan c.columns
+            ++ elements.span_attribute attribute.RowSpan c.rows in (
+              cell-is c.is_header (spans ++ elements.align_attribute c.alignment) c.content
+                  (cell-neat c.columns c.rows c.alignment h.0.1)
+                  (spans-different (nat_lt 1 c.columns) (nat_lt 1 c.rows) (decimal c.columns) (decimal c.rows)
+                  (elements.alignment_name c.alignment)) h.0.0,
+              cell-elements cells h.1,
+            )
 
         piece-elements : (pieces : List elements.Piece) → PiecesMade at pieces
-            → HaveBlocks k at (document.blocks_of (map elements.piece_element pieces))
+            → HaveInside k in_table at (document.blocks_of (map elements.piece_element pieces))
         piece-elements [] h = tt
-        piece-elements (elements.caption content ∷ pieces) h = ((rich, h.0), piece-elements pieces h.1)
+        piece-elements (elements.caption content ∷ pieces) h =
+            ((rich name.Caption [] content refl, refl, refl, h.0), piece-elements pieces h.1)
         piece-elements (elements.row r ∷ pieces) h =
-            ((rich, cell-elements r.cells h.0), piece-elements pieces h.1)
+            let cells : Blocks = document.blocks_of (map elements.cell_element r.cells) in
+            ((rich name.Row [] cells refl, refl, refl, cell-elements r.cells h.0), piece-elements pieces h.1)
 
-        either-option : (b : Bool) (o p : Option Block) → HasOption k spaces at o → HasOption k spaces at p
-            → HasOption k spaces at (if b then o else p)
-        either-option true o p g h = g
-        either-option false o p g h = h
+        either-option : (b : Bool) (o p : Option Block) → (b ≡ true → HasOption k spaces at o)
+            → (b ≡ false → HasOption k spaces at p) → HasOption k spaces at (if b then o else p)
+        either-option true o p g h = g refl
+        either-option false o p g h = h refl
 
-        pieces-table : (has_border : Bool) (pieces : List elements.Piece) → PiecesMade at pieces
-            → HasOption k spaces at (elements.table_of_pieces has_border pieces)
-        pieces-table has_border pieces h =
-            let all : Block =
-            document.element name.Table (elements.border_attribute has_border)
-            (document.blocks_of (map elements.piece_element pieces)) in
+        either-blocks : (b : Bool) (ps qs : List Part) → (b ≡ true → AllParts k at ps)
+            → (b ≡ false → AllParts k at qs)
+            → AllParts k at (if b then ps else qs)
+        either-blocks true ps qs g h = g refl
+        either-blocks false ps qs g h = h refl
+
+        pieces-table : (has_border : Bool) (pieces : List elements.Piece) → MayHaveTables k true
+            → (elements.are_paragraphs pieces ≡ true → elements.has_header_alone pieces ≡ true
+            → HeaderShows pieces)
+            → ((elements.are_paragraphs pieces && elements.has_header_alone pieces) ≡ false
+            → is_neat_table (elements.border_attribute has_border)
+            (document.blocks_of (map elements.piece_element pieces)) ≡ true)
+            → PiecesMade at pieces → HasOption k spaces at (elements.table_of_pieces has_border pieces)
+        pieces-table has_border pieces may headed neat h =
+            let border : List BlockAttribute = elements.border_attribute has_border in
+            let rows : Blocks = document.blocks_of (map elements.piece_element pieces) in
+            let all : Block = document.element name.Table border rows in
             either-option (elements.are_paragraphs pieces && elements.has_header_alone pieces)
-            (elements.table_of_lines pieces) (elements.table_of_elements has_border pieces) (lines-table pieces h)
-            (either-option (list_any elements.is_filled_piece pieces) (Some all) None
-            (rich, piece-elements pieces h) tt)
+            (elements.table_of_lines pieces) (elements.table_of_elements has_border pieces)
+            (λ e.
+            let p = and_parts (elements.are_paragraphs pieces) (elements.has_header_alone pieces) e in
+            lines-table pieces may (headed p.0 p.1) h)
+            (λ form. either-option (list_any elements.is_filled_piece pieces) (Some all) None
+            (λ e. (
+              rich name.Table border rows
+                  (and_from (has_neat_attributes name.Table border) (is_neat_table border rows)
+                  (border-neat has_border) (neat form)),
+              refl,
+              one-different has_border attribute.Border (codes "1"),
+              piece-elements pieces h,
+            )) (λ e. tt))
 
       pub rich-table-has : (trees : List Simple) (attributes : List AttributePair) (pieces : List TablePiece)
           (nodes : List Node) → AllPieces pieces → AllNodes k nodes
-          → Gives k (rich_table_parts trees attributes pieces nodes)
-      rich-table-has trees attributes pieces nodes h g at c f =
+          → (at : ℕ) (c : Context) → FitsIn k at c → has_elements c ≡ true
+          → AllParts k at (rich_table_parts trees attributes pieces nodes c)
+      rich-table-has trees attributes pieces nodes h g at c f e =
+          let both = and_parts c.is_rich (not c.is_flat) e in
+          let may : MayHaveTables k true = subst (MayHaveTables k) both.0 f.tables in
+          let blocks : c.is_flat ≡ false = not-true c.is_flat both.1 in
+          let headed = header-shown c both.0 blocks pieces (all-fill pieces h) in
           let has_spans : Bool = have_row_spans (rows_in pieces) in
           let kept : List TablePiece = kept_pieces pieces in
           let all : List Part = flow_all nodes c in
@@ -349,7 +480,10 @@ module _ (k : Leaves) where
           (pieces-made at has_spans c f kept (kept-have (stays has_spans) pieces h)) in
           let o : Option Block = elements.table_of_pieces (has_border attributes) made in
           apart-has k at (kept_table_parts trees attributes has_spans kept nodes c)
-          (either-parts k at (is_for_page trees attributes kept) all (table_with_blocks attributes kept made all)
-          all_have
-          (either-parts k at (is_headed attributes kept || elements.are_paragraphs made) (block_part o) all
-          (option-part k spaces at o (pieces-table at (has_border attributes) made made_have)) all_have))
+          (either-blocks at (is_for_page trees attributes kept) all (table_with_blocks attributes kept made all)
+          (λ page. all_have)
+          (λ page. either-blocks at (is_headed attributes kept || elements.are_paragraphs made) (block_part o) all
+          (λ told. option-part k spaces at o
+          (pieces-table at (has_border attributes) made may headed
+          (table-neat c both.0 blocks trees attributes pieces (all-fill pieces h) page told) made_have))
+          (λ told. all_have)))

@@ -2,7 +2,7 @@
 use Rattle.std.proofs.Common.{◌≡◌, ℕ, zero, suc, Bool, true, false, List, [], ◌∷◌, refl, sym, ap, ◌∙◌, map}
 use Rattle.std.proofs.Common.{◌++◌, fold, take, drop, length, subst, arith}
 use Rattle.std.proofs.lemmas.Str.{IsUtf8-append}
-use Rattle.std.specs.Prelude.{if◌then◌else◌, Option, Some, None}
+use Rattle.std.specs.Prelude.{if◌then◌else◌, cond, ◌||◌, Option, Some, None}
 use Rattle.std.specs.Str.{IsUtf8}
 use Rattle.htmd_lexical.proofs.Cases.{test}
 use Rattle.htmd_document.specs.Formats.{is_same_format}
@@ -14,12 +14,15 @@ use Rattle.htmd_flow.specs.Nesting.{wrapped_by, one_inline, met, joined, with_co
 use Rattle.htmd_flow.specs.Paragraphs.{anchored}
 use Rattle.htmd_flow.specs.Parts.{Around, linked}
 use Rattle.htmd_flow.specs.Parts as part
-use Rattle.htmd_law_returning.specs.WholeLines.{is_same_around}
+use Rattle.htmd_document.specs.NormalInlines.{is_anchor}
+use Rattle.htmd_law_returning.specs.LastingAnchors.{past_gaps, goes_on}
+use Rattle.htmd_law_returning.specs.WholeLines.{is_gap, is_same_around}
 use Rattle.htmd_law_settled.proofs.LineShapes.{same-format, LastCode, code-shaped, code-twice, end-append, BlackStart}
 use Rattle.htmd_law_settled.proofs.LineShapes.{BlackEnd, StartsInline, EndsInline}
 use Rattle.htmd_law_settled.proofs.LineShapes.{Starts, Ends, Beside, ShapedInline, Shaped, Whole, Follows, start-touch}
-use Rattle.htmd_law_settled.proofs.LineShapes.{ends-touch}
-use Rattle.htmd_law_settled.proofs.LineShapes.{joined-shaped, joined-starts, joined-starts-on, joined-ends, ends-follow}
+use Rattle.htmd_law_settled.proofs.LineShapes.{IsSeen, LastSeen, ends-touch, one-on, last-follow, anchor-plain}
+use Rattle.htmd_law_settled.proofs.LineShapes.{anchor-follow, gap-plain, not-blank}
+use Rattle.htmd_law_settled.proofs.LineShapes.{joined-shaped, joined-starts, joined-starts-on, joined-ends}
 use Rattle.htmd_law_settled.proofs.LineShapes.{Boxed}
 use Rattle.htmd_law_settled.proofs.BoxShapes.{NoTask, fills-start, fills-end, one-boxed, joined-boxed, last-starts}
 use Rattle.htmd_law_settled.proofs.BoxShapes.{last-boxed, space-utf8}
@@ -112,11 +115,12 @@ anchors-deep n around (id ∷ ids) xs l =
 
 -- ---- the wrappers that the last leaf stands in
 
--- what the last leaf is: code, or no format
+-- what the last leaf is: code, or neither a format nor an anchor
 abbrev pub EndOf : Bool → Inline → Type 0
 EndOf true (code s) = Unit {0}
 EndOf true x = ⊥
 EndOf false (formatted f content) = ⊥
+EndOf false (anchor id) = ⊥
 EndOf false x = Unit {0}
 
 abbrev mutual
@@ -154,6 +158,20 @@ mutual
 along-none : (x w : Inline) → AlongInline false [] x → is_same_around x w ≡ false
 along-none (formatted f content) w h = absurd h
 along-none x w h = refl
+
+-- it is to be seen
+inline-seen : (x : Inline) (ms : List Wrapper) → EndsInline x → AlongInline false ms x → IsSeen x
+inline-seen (text s) ms e k = ap (λ b. b || false) (not-blank s e)
+inline-seen line_break ms e k = absurd e
+inline-seen (anchor id) [] e k = absurd k
+inline-seen (anchor id) (of_format g ∷ ms) e k = absurd k
+inline-seen (anchor id) (of_link node ∷ ms) e k = absurd k
+inline-seen x ms e k = refl
+
+along-seen : (xs : Inlines) (ms : List Wrapper) → Ends xs → Along false ms xs → LastSeen xs
+along-seen no_inlines ms e k = absurd k
+along-seen (inline x no_inlines) ms e k = inline-seen x ms e k
+along-seen (inline x (inline y ys)) ms e k = along-seen (inline y ys) ms e k
 
 apart-none : (xs : Inlines) (w : Inline) → Along false [] xs → LastApart xs w
 apart-none no_inlines w h = absurd h
@@ -232,10 +250,10 @@ wrapped-shaped : (around : List Around) (y : Inline) → IsLeaf y
 wrapped-shaped [] y h = leaf-shaped y h
 wrapped-shaped (part.formatted f ∷ around) y h =
     let r = wrapped-shaped around y h in
-    (((r.0, tt, tt, tt), r.1, r.2, one-boxed (wrapped around y) no_inlines r.4), tt, tt, (refl, r.3), tt)
+    (((r.0, refl, tt, tt), r.1, r.2, one-boxed (wrapped around y) no_inlines r.4), tt, tt, (refl, r.3), tt)
 wrapped-shaped (linked node address title ∷ around) y h =
     let r = wrapped-shaped around y h in
-    (((r.0, tt, tt, tt), r.1, r.2, one-boxed (wrapped around y) no_inlines r.4), tt, tt, r.3, tt)
+    (((r.0, refl, tt, tt), r.1, r.2, one-boxed (wrapped around y) no_inlines r.4), tt, tt, r.3, tt)
 
 -- ---- a leaf behind others
 
@@ -289,21 +307,17 @@ ready-gap : (o : Option Inline) (ms : List Wrapper) (xs : Inlines) (v : Inline) 
 ready-gap None ms xs v i h k a = record {
   shaped = h.0;
   starts = h.1;
-  follows = ends-follow xs v h.2;
+  follows = last-follow xs v (along-seen xs ms h.2 k) a;
   boxed = h.3;
 }
 ready-gap (Some g) ms no_inlines v i h k a = absurd k
 ready-gap (Some g) ms (inline x xs) v i h k a = record {
-  shaped = joined-shaped (inline x xs) g h.0 (gap-shaped g i) (ends-follow (inline x xs) g h.2)
-      (ends-touch (inline x xs) g h.2);
+  shaped = joined-shaped (inline x xs) g h.0 (gap-shaped g i) (plain-follow (inline x xs) g (gap-plain g i))
+      (ends-touch (inline x xs) g h.2 (along-seen (inline x xs) ms h.2 k));
   starts = joined-starts-on x xs g h.1;
-  follows = gap-follow (inline x xs) g v h.0 h.2 a i;
+  follows = gap-follow (inline x xs) g v h.0 h.2 (along-seen (inline x xs) ms h.2 k) a i;
   boxed = joined-boxed (inline x xs) g h.3 (fills-end (inline x xs) g h.3 h.2) (gap-no-task g i);
 }
-
-anchor-plain : (id : List ℕ) (v : Inline) → is_same_around v (anchor id) ≡ false
-anchor-plain id (formatted f c) = refl
-anchor-plain id v = refl
 
 ready-anchors : (ids : List (List ℕ)) (zs : Inlines) (v : Inline) → Ready zs v → Ready (with_anchors ids zs) v
 ready-anchors [] zs v h = h
@@ -311,7 +325,7 @@ ready-anchors (id ∷ ids) zs v h = ready-anchors ids (joined zs (anchor id)) v 
   shaped = joined-shaped zs (anchor id) h.shaped tt (plain-follow zs (anchor id) (anchor-plain id))
       (start-touch zs (anchor id) tt);
   starts = joined-starts zs (anchor id) h.starts tt;
-  follows = ends-follow (joined zs (anchor id)) v (joined-ends zs (anchor id) h.shaped tt);
+  follows = anchor-follow zs id v h.follows;
   boxed = joined-boxed zs (anchor id) h.boxed (fills-start zs (anchor id) tt) tt;
 })
 
@@ -331,6 +345,32 @@ same-content : (f : Inlines → Inlines) (v x : Inline) → is_same_around v (wi
 same-content f (formatted g c) (formatted h d) = refl
 same-content f (formatted g c) x = refl
 same-content f v x = refl
+
+passed-content : (f : Inlines → Inlines) (x : Inline)
+    → (is_gap (with_content f x) || is_anchor (with_content f x)) ≡ (is_gap x || is_anchor x)
+passed-content f (formatted g c) = refl
+passed-content f (link a t c) = refl
+passed-content f x = refl
+
+-- what shows next is the same
+last-on : (f : Inlines → Inlines) (v : Inline) (xs : Inlines)
+    → goes_on v (past_gaps (in_last f xs)) ≡ goes_on v (past_gaps xs)
+last-on f v no_inlines = refl
+last-on f v (inline x no_inlines) =
+    ap (λ b. goes_on v (cond b no_inlines (one_inline (with_content f x)))) (passed-content f x)
+    ∙ by (is_gap x || is_anchor x)
+  where
+    by : (b : Bool) → goes_on v (cond b no_inlines (one_inline (with_content f x)))
+        ≡ goes_on v (cond b no_inlines (one_inline x))
+    by true = refl
+    by false = same-content f v x
+last-on f v (inline x (inline y ys)) = by (is_gap x || is_anchor x) (last-on f v (inline y ys))
+  where
+    by : (b : Bool) → goes_on v (past_gaps (in_last f (inline y ys))) ≡ goes_on v (past_gaps (inline y ys))
+        → goes_on v (cond b (past_gaps (in_last f (inline y ys))) (inline x (in_last f (inline y ys))))
+        ≡ goes_on v (cond b (past_gaps (inline y ys)) (inline x (inline y ys)))
+    by true e = e
+    by false e = refl
 
 content-ends : (f : Inlines → Inlines) (x : Inline) → EndsInline x → EndsInline (with_content f x)
 content-ends f (formatted g c) h = tt
@@ -360,19 +400,28 @@ module _ (i b : Bool) (m : Wrapper) (ms : List Wrapper) (a : Around) (ns : List 
   content-beside (text s) (link u t c) b = tt
   content-beside line_break (formatted g c) b = tt
   content-beside line_break (link u t c) b = tt
+  content-beside (anchor id) (formatted g c) b = tt
+  content-beside (anchor id) (link u t c) b = tt
   content-beside (text s) y b = b
   content-beside line_break y b = b
+  content-beside (anchor id) y b = b
   content-beside x y b = tt
 
   last-shaped : (xs : Inlines) → Shaped xs → Along i (m ∷ ms) xs → Shaped (in_last f xs)
   last-shaped no_inlines h k = absurd k
-  last-shaped (inline x no_inlines) h k = (content-shaped x h.0 k, tt, tt, tt)
-  last-shaped (inline x (inline y no_inlines)) h k =
-      (h.0, tt, last-shaped (inline y no_inlines) h.2 k, content-beside x y h.3)
-  last-shaped (inline x (inline y (inline z no_inlines))) h k =
-      (h.0, λ e. same-content f x z ∙ h.1 e, last-shaped (inline y (inline z no_inlines)) h.2 k, h.3)
-  last-shaped (inline x (inline y (inline z (inline w ws)))) h k =
-      (h.0, h.1, last-shaped (inline y (inline z (inline w ws))) h.2 k, h.3)
+  last-shaped (inline x no_inlines) h k = (content-shaped x h.0 k, last-on f (with_content f x) no_inlines, tt, tt)
+  last-shaped (inline x (inline y no_inlines)) h k = (
+    h.0,
+    last-on f x (one_inline y) ∙ h.1,
+    last-shaped (inline y no_inlines) h.2 k,
+    content-beside x y h.3,
+  )
+  last-shaped (inline x (inline y (inline z zs))) h k = (
+    h.0,
+    last-on f x (inline y (inline z zs)) ∙ h.1,
+    last-shaped (inline y (inline z zs)) h.2 k,
+    h.3,
+  )
 
   content-along : (x : Inline) → ShapedInline x → AlongInline i (m ∷ ms) x → is_same m (wrapper_of a) ≡ true
       → AlongInline b (wrapper_of a ∷ ns) (with_content f x)
@@ -472,9 +521,9 @@ module _ (o : Option Inline) (i : IsGap o) (ids : List (List ℕ)) (y : Inline) 
   put-box d around =
       put-ready around (with_anchors ids (box d))
       (ready-anchors ids (box d) (wrapped around y) (record {
-        shaped = (tt, tt, (space-utf8, tt, tt, tt), tt);
+        shaped = (tt, one-on (task d) (text (space ∷ [])) refl, (space-utf8, refl, tt, tt), tt);
         starts = tt;
-        follows = λ q. refl;
+        follows = (λ q. refl, (λ q. refl, tt));
         boxed = (refl, tt);
       }))
 

@@ -2,7 +2,8 @@
 -- between.
 use Rattle.std.proofs.Common.{◌≡◌, ◌⊎◌, ℕ, Bool, true, false, List, [], ◌∷◌, ◌++◌, refl, sym, ap, ◌∙◌}
 use Rattle.std.proofs.Common.{inl, inr, subst, append_assoc}
-use Rattle.std.specs.Prelude.{encode_utf8, ◌&&◌}
+use Rattle.std.specs.Prelude.{encode_utf8, ◌&&◌, ◌||◌, cond}
+use Rattle.std.proofs.lemmas.Bool.{true≢false}
 use Rattle.std.specs.List.{list_all}
 use Rattle.std.specs.Str.{chars, IsUtf8}
 use Rattle.std.proofs.Math.Utf8.{scalar}
@@ -13,10 +14,12 @@ use Rattle.htmd_lexical.specs.Characters.{space}
 use Rattle.htmd_lexical.proofs.BytesLemmas.{same_bytes}
 use Rattle.htmd_document.specs.Formats.{Format, Emphasis, Strong, Deleted, Superscript, Subscript, Inserted, Underlined}
 use Rattle.htmd_document.specs.Formats.{Marked, Small, Keyboard, Abbreviation, is_same_format}
-use Rattle.htmd_document.specs.Documents.{Inline, text, code, formatted, link, line_break, task}
+use Rattle.htmd_document.specs.Documents.{Inline, text, code, formatted, link, anchor, line_break, task}
 use Rattle.htmd_document.specs.Documents.{Inlines, no_inlines, inline}
 use Rattle.htmd_flow.specs.Nesting.{one_inline, met, joined}
 use Rattle.htmd_shown.specs.Spaces.{is_white, is_blank_text}
+use Rattle.htmd_document.specs.NormalInlines.{is_anchor}
+use Rattle.htmd_law_returning.specs.LastingAnchors.{past_gaps, goes_on}
 use Rattle.htmd_law_returning.specs.WholeLines.{is_gap, is_same_around}
 
 -- ---- the same format
@@ -72,7 +75,7 @@ end-characters s h =
     ap chars h.2 ∙ chars-append h.0 (encode_utf8 h.1) h.3
     ∙ ap (λ (y : List ℕ). chars h.0 ++ y) (one-character h.1 h.4)
 
-not-blank : (s : List ℕ) → BlackEnd s → is_blank_text s ≡ false
+pub not-blank : (s : List ℕ) → BlackEnd s → is_blank_text s ≡ false
 not-blank s h =
     ap (list_all is_white) (end-characters s h) ∙ list_all-append is_white (chars h.0) (h.1 ∷ [])
     ∙ rw h.5 (none (list_all is_white (chars h.0)))
@@ -118,15 +121,15 @@ abbrev pub Boxed : Inlines → Type 0
 Boxed (inline (task is_checked) xs) = BehindBox xs
 Boxed xs = Unit {0}
 
--- what stands two places after an inline isn't in its format if there is only a gap between
+-- what shows next after an inline, past gaps and anchors, isn't in its format
 abbrev pub Apart : Inline → Inlines → Type 0
-Apart x (inline y (inline z zs)) = is_gap y ≡ true → is_same_around x z ≡ false
-Apart x ys = Unit {0}
+Apart x xs = goes_on x (past_gaps xs) ≡ false
 
--- no white space is beside a break
+-- no white space is beside a break, and nothing of it behind an anchor
 abbrev pub Beside : Inline → Inline → Type 0
 Beside (text s) line_break = BlackEnd s
 Beside line_break (text s) = BlackStart s
+Beside (anchor id) y = StartsInline y
 Beside x y = Unit {0}
 
 abbrev pub BesideFirst : Inline → Inlines → Type 0
@@ -150,11 +153,10 @@ Whole xs = Shaped xs × Starts xs × Ends xs × Boxed xs
 
 -- ---- one more inline
 
--- the last two inlines let this one follow
+-- this one may follow: it isn't in the format of what showed last, before gaps and anchors
 abbrev pub Follows : Inlines → Inline → Type 0
-Follows (inline x (inline y no_inlines)) w = is_gap y ≡ true → is_same_around x w ≡ false
-Follows (inline x (inline y (inline z zs))) w = Follows (inline y (inline z zs)) w
-Follows xs w = Unit {0}
+Follows no_inlines w = Unit {0}
+Follows (inline x xs) w = (past_gaps xs ≡ no_inlines → is_same_around x w ≡ false) × Follows xs w
 
 -- the last inline may stand beside this one
 abbrev pub Touches : Inlines → Inline → Type 0
@@ -165,6 +167,7 @@ Touches (inline x (inline y ys)) w = Touches (inline y ys) w
 beside-start : (x y : Inline) → StartsInline y → Beside x y
 beside-start (text s) line_break e = absurd e
 beside-start line_break (text t) e = e
+beside-start (anchor id) y e = e
 beside-start x y e = tt
 
 pub start-touch : (xs : Inlines) (y : Inline) → StartsInline y → Touches xs y
@@ -172,15 +175,26 @@ start-touch no_inlines y e = tt
 start-touch (inline x no_inlines) y e = beside-start x y e
 start-touch (inline x (inline z zs)) y e = start-touch (inline z zs) y e
 
-beside-end : (x y : Inline) → EndsInline x → Beside x y
-beside-end (text s) line_break e = e
-beside-end line_break y e = absurd e
-beside-end x y e = tt
+-- something to see
+abbrev pub IsSeen : Inline → Type 0
+IsSeen x = (is_gap x || is_anchor x) ≡ false
 
-pub ends-touch : (xs : Inlines) (y : Inline) → Ends xs → Touches xs y
-ends-touch no_inlines y e = tt
-ends-touch (inline x no_inlines) y e = beside-end x y e
-ends-touch (inline x (inline z zs)) y e = ends-touch (inline z zs) y e
+-- the last inline is
+abbrev pub LastSeen : Inlines → Type 0
+LastSeen no_inlines = ⊥
+LastSeen (inline x no_inlines) = IsSeen x
+LastSeen (inline x (inline y ys)) = LastSeen (inline y ys)
+
+beside-end : (x y : Inline) → EndsInline x → IsSeen x → Beside x y
+beside-end (text s) line_break e l = e
+beside-end line_break y e l = absurd e
+beside-end (anchor id) y e l = absurd (true≢false l)
+beside-end x y e l = tt
+
+pub ends-touch : (xs : Inlines) (y : Inline) → Ends xs → LastSeen xs → Touches xs y
+ends-touch no_inlines y e l = tt
+ends-touch (inline x no_inlines) y e l = beside-end x y e l
+ends-touch (inline x (inline z zs)) y e l = ends-touch (inline z zs) y e l
 
 -- two that meet are both there, or one that is no format
 abbrev pub Meets : Inline → Inline → Inlines → Type 0
@@ -203,52 +217,80 @@ meets (text s) y = inl refl
 meets (code s) y = inl refl
 meets x y = inl refl
 
+-- one inline alone
+pub one-on : (v z : Inline) → is_same_around v z ≡ false → Apart v (one_inline z)
+one-on v z e = by (is_gap z || is_anchor z)
+  where
+    by : (b : Bool) → goes_on v (cond b no_inlines (one_inline z)) ≡ false
+    by true = refl
+    by false = e
+
 -- what holds of the one, or of both
-met-shaped : (x y : Inline) → ShapedInline x → ShapedInline y → Beside x y → Shaped (met x y)
-met-shaped (text s) (text t) g h b = (IsUtf8-append s t g h, tt, tt, tt)
-met-shaped (code s) (code t) g h b =
-    ((start-append s t g.0, end-append s t g.2 h.1, IsUtf8-append s t g.2 h.2), tt, tt, tt)
-met-shaped (text s) y g h b = (g, tt, (h, tt, tt, tt), b)
-met-shaped (code s) y g h b = (g, tt, (h, tt, tt, tt), b)
-met-shaped x y g h b = (g, tt, (h, tt, tt, tt), b)
+met-shaped : (x y : Inline) → ShapedInline x → ShapedInline y → Beside x y → is_same_around x y ≡ false
+    → Shaped (met x y)
+met-shaped (text s) (text t) g h b e = (IsUtf8-append s t g h, refl, tt, tt)
+met-shaped (code s) (code t) g h b e =
+    ((start-append s t g.0, end-append s t g.2 h.1, IsUtf8-append s t g.2 h.2), refl, tt, tt)
+met-shaped (text s) y g h b e = (g, one-on (text s) y e, (h, refl, tt, tt), b)
+met-shaped (code s) y g h b e = (g, one-on (code s) y e, (h, refl, tt, tt), b)
+met-shaped x y g h b e = (g, one-on x y e, (h, refl, tt, tt), b)
 
 beside-code : (x : Inline) (s : List ℕ) → Beside x (code s)
 beside-code (text s) t = tt
 beside-code line_break t = tt
+beside-code (anchor id) t = tt
 beside-code x t = tt
 
 met-beside : (v x y : Inline) → Beside v x → BesideFirst v (met x y)
 met-beside line_break (text s) (text t) b = start-append s t b
+met-beside (anchor id) (text s) (text t) b = start-append s t b
 met-beside v (text s) (text t) b = tt
 met-beside v (code s) (code t) b = beside-code v (s ++ t)
 met-beside v (text s) y b = b
 met-beside v (code s) y b = b
 met-beside v x y b = b
 
-met-apart : (v x y : Inline) → (is_gap x ≡ true → is_same_around v y ≡ false) → Apart v (met x y)
-met-apart v x y h = elim (meets x y) [
-  | inl e ↦ subst (Apart v) (sym e) h
-  | inr e ↦ subst (Apart v) (sym e.1) tt
+met-on : (v x y : Inline) → Apart v (one_inline x)
+    → (past_gaps (one_inline x) ≡ no_inlines → is_same_around v y ≡ false) → Apart v (met x y)
+met-on v x y h g = elim (meets x y) [
+  | inl e ↦ subst (Apart v) (sym e) (by (is_gap x || is_anchor x) h g)
+  | inr e ↦ subst (Apart v) (sym e.1) (one-on v e.0 (e.2 v))
 ]
+  where
+    by : (b : Bool) → goes_on v (cond b no_inlines (one_inline x)) ≡ false
+        → (cond b no_inlines (one_inline x) ≡ no_inlines → is_same_around v y ≡ false)
+        → goes_on v (cond b (past_gaps (one_inline y)) (inline x (one_inline y))) ≡ false
+    by true h g = one-on v y (g refl)
+    by false h g = h
 
--- two before
-met-behind : (v x y z : Inline) → (is_gap x ≡ true → is_same_around v y ≡ false)
-    → Apart v (inline x (met y z))
-met-behind v x y z h = elim (meets y z) [
-  | inl e ↦ subst (λ us. Apart v (inline x us)) (sym e) h
-  | inr e ↦ subst (λ us. Apart v (inline x us)) (sym e.1) (λ g. e.2 v)
-]
+-- with one more inline
+joined-on : (v : Inline) (xs : Inlines) (y : Inline) → Apart v xs
+    → (past_gaps xs ≡ no_inlines → is_same_around v y ≡ false) → Apart v (joined xs y)
+joined-on v no_inlines y h g = one-on v y (g refl)
+joined-on v (inline x no_inlines) y h g = met-on v x y h g
+joined-on v (inline x (inline z zs)) y h g =
+    by (is_gap x || is_anchor x) h g (λ i j. joined-on v (inline z zs) y i j)
+  where
+    by : (b : Bool) → goes_on v (cond b (past_gaps (inline z zs)) (inline x (inline z zs))) ≡ false
+        → (cond b (past_gaps (inline z zs)) (inline x (inline z zs)) ≡ no_inlines → is_same_around v y ≡ false)
+        → (Apart v (inline z zs) → (past_gaps (inline z zs) ≡ no_inlines → is_same_around v y ≡ false)
+        → Apart v (joined (inline z zs) y))
+        → goes_on v (cond b (past_gaps (joined (inline z zs) y)) (inline x (joined (inline z zs) y))) ≡ false
+    by true h g f = f h g
+    by false h g f = h
 
 pub joined-shaped : (xs : Inlines) (y : Inline) → Shaped xs → ShapedInline y → Follows xs y → Touches xs y
     → Shaped (joined xs y)
-joined-shaped no_inlines y h g f t = (g, tt, tt, tt)
-joined-shaped (inline x no_inlines) y h g f t = met-shaped x y h.0 g t
+joined-shaped no_inlines y h g f t = (g, refl, tt, tt)
+joined-shaped (inline x no_inlines) y h g f t = met-shaped x y h.0 g t (f.0 refl)
 joined-shaped (inline x (inline z no_inlines)) y h g f t =
-    (h.0, met-apart x z y f, met-shaped z y h.2.0 g t, met-beside x z y h.3)
-joined-shaped (inline x (inline z (inline v no_inlines))) y h g f t =
-    (h.0, met-behind x z v y h.1, joined-shaped (inline z (inline v no_inlines)) y h.2 g f t, h.3)
-joined-shaped (inline x (inline z (inline v (inline u us)))) y h g f t =
-    (h.0, h.1, joined-shaped (inline z (inline v (inline u us))) y h.2 g f t, h.3)
+    (h.0, joined-on x (one_inline z) y h.1 f.0, met-shaped z y h.2.0 g t (f.1.0 refl), met-beside x z y h.3)
+joined-shaped (inline x (inline z (inline v vs))) y h g f t = (
+  h.0,
+  joined-on x (inline z (inline v vs)) y h.1 f.0,
+  joined-shaped (inline z (inline v vs)) y h.2 g f.1 t,
+  h.3,
+)
 
 met-starts : (x y : Inline) → StartsInline x → Starts (met x y)
 met-starts (text s) (text t) h = start-append s t h
@@ -273,9 +315,6 @@ met-ends (code s) (code t) g h = tt
 met-ends (text s) y g h = h
 met-ends (code s) y g h = h
 met-ends x y g h = h
-
-abbrev LastEnds : Inline → Inlines → Type 0
-LastEnds x us = Ends us → Ends (inline x us)
 
 pub joined-ends : (xs : Inlines) (y : Inline) → Shaped xs → EndsInline y → Ends (joined xs y)
 joined-ends no_inlines y h g = g
@@ -302,27 +341,27 @@ joined-ends (inline x (inline z zs)) y h g =
     behind_it no_inlines e h = absurd (cc)
     behind_it (inline v us) e h = h
 
--- nothing is asked of what follows where the last inline is no gap
-gap-ends : (x : Inline) → EndsInline x → is_gap x ≡ false
-gap-ends (text s) h = not-blank s h
-gap-ends line_break h = absurd h
-gap-ends x h = refl
-
-pub ends-follow : (xs : Inlines) (y : Inline) → Ends xs → Follows xs y
-ends-follow no_inlines y h = tt
-ends-follow (inline x no_inlines) y h = tt
-ends-follow (inline x (inline z no_inlines)) y h =
-    λ e. absurd (let q : true ≡ false = sym e ∙ gap-ends z h in cc)
-ends-follow (inline x (inline z (inline v zs))) y h = ends-follow (inline z (inline v zs)) y h
-
 -- what is no format follows anything
 pub plain-follow : (xs : Inlines) (y : Inline) → ((v : Inline) → is_same_around v y ≡ false) → Follows xs y
 plain-follow no_inlines y h = tt
-plain-follow (inline x no_inlines) y h = tt
-plain-follow (inline x (inline z no_inlines)) y h = λ e. h x
-plain-follow (inline x (inline z (inline v zs))) y h = plain-follow (inline z (inline v zs)) y h
+plain-follow (inline x xs) y h = (λ e. h x, plain-follow xs y h)
 
 -- ---- a gap, and what follows it
+
+-- what ends with something to see isn't gaps and anchors alone
+seen-some : (xs : Inlines) → LastSeen xs → past_gaps xs ≡ no_inlines → ⊥
+seen-some no_inlines l e = absurd l
+seen-some (inline x no_inlines) l e = by (is_gap x || is_anchor x) l e
+  where
+    by : (b : Bool) → b ≡ false → cond b no_inlines (one_inline x) ≡ no_inlines → ⊥
+    by true l e = absurd (true≢false l)
+    by false l e = (cc)
+seen-some (inline x (inline z zs)) l e = by (is_gap x || is_anchor x) (λ f. seen-some (inline z zs) l f) e
+  where
+    by : (b : Bool) → (past_gaps (inline z zs) ≡ no_inlines → ⊥)
+        → cond b (past_gaps (inline z zs)) (inline x (inline z zs)) ≡ no_inlines → ⊥
+    by true f e = f e
+    by false f e = (cc)
 
 -- the last inline isn't in the format of this one
 abbrev pub LastApart : Inlines → Inline → Type 0
@@ -347,41 +386,104 @@ gap-plain (text s) h v = refl
 gap-plain line_break h v = refl
 gap-plain g h v = absurd h
 
-met-follow : (x g w : Inline) → ShapedInline x → EndsInline x → is_same_around x w ≡ false
-    → Follows (met x g) w
-met-follow (text s) (text t) w u h e = tt
-met-follow (code s) (code t) w u h e = tt
-met-follow (text s) g w u h e = λ q. e
-met-follow (code s) g w u h e = λ q. e
-met-follow x g w u h e = λ q. e
+-- where something showed last
+pub last-follow : (xs : Inlines) (y : Inline) → LastSeen xs → LastApart xs y → Follows xs y
+last-follow no_inlines y l a = tt
+last-follow (inline x no_inlines) y l a = (λ e. a, tt)
+last-follow (inline x (inline z zs)) y l a =
+    (λ e. absurd (seen-some (inline z zs) l e), last-follow (inline z zs) y l a)
 
--- behind another inline: a text that goes on isn't blank
-pair-follow : (v x g w : Inline) → ShapedInline x → EndsInline x → is_same_around x w ≡ false
-    → Follows (inline v (met x g)) w
-pair-follow v (text s) (text t) w u h e =
-    λ q. absurd (let z : true ≡ false = sym q ∙ more-not-blank s t h u in cc)
-pair-follow v (code s) (code t) w u h e = λ q. absurd (cc)
-pair-follow v (text s) g w u h e = λ q. e
-pair-follow v (code s) g w u h e = λ q. e
-pair-follow v x g w u h e = λ q. e
+gap-same : (g w : Inline) → IsGapInline g → is_same_around g w ≡ false
+gap-same (text s) w i = refl
+gap-same line_break w i = refl
+gap-same g w i = absurd i
 
-pub gap-follow : (xs : Inlines) (g w : Inline) → Shaped xs → Ends xs → LastApart xs w → IsGapInline g
-    → Follows (joined xs g) w
-gap-follow no_inlines g w h e a i = tt
-gap-follow (inline x no_inlines) g w h e a i = met-follow x g w h.0 e a
-gap-follow (inline v (inline x no_inlines)) g w h e a i = pair-follow v x g w h.2.0 e a
-gap-follow (inline v (inline x (inline y ys))) g w h e a i =
-    deeper v x y ys (gap-follow (inline x (inline y ys)) g w h.2 e a i)
+met-follow : (x g w : Inline) → is_same_around x w ≡ false → IsGapInline g → Follows (met x g) w
+met-follow (text s) (text t) w e i = (λ q. refl, tt)
+met-follow (code s) (code t) w e i = absurd i
+met-follow (text s) g w e i = (λ q. e, (λ q. gap-same g w i, tt))
+met-follow (code s) g w e i = (λ q. e, (λ q. gap-same g w i, tt))
+met-follow x g w e i = (λ q. e, (λ q. gap-same g w i, tt))
+
+-- a text that goes on isn't blank
+met-some : (x g : Inline) → ShapedInline x → EndsInline x → IsSeen x → past_gaps (met x g) ≡ no_inlines
+    → ⊥
+met-some (text s) (text t) u h l e = by (is_blank_text (s ++ t)) (more-not-blank s t h u) e
   where
-    deeper : (v x y : Inline) (ys : Inlines) → Follows (joined (inline x (inline y ys)) g) w
-        → Follows (inline v (joined (inline x (inline y ys)) g)) w
-    deeper v x y no_inlines f = elim (meets y g) [
-      | inl q ↦ subst (λ us. Follows (inline v (inline x us)) w) (sym q)
-          (subst (λ us. Follows (inline x us) w) q f)
-      | inr q ↦ subst (λ us. Follows (inline v (inline x us)) w) (sym q.1)
-          (subst (λ us. Follows (inline x us) w) q.1 f)
-    ]
-    deeper v x y (inline z zs) f = f
+    by : (b : Bool) → b ≡ false → cond (b || false) no_inlines (one_inline (text (s ++ t))) ≡ no_inlines → ⊥
+    by true n e = absurd (true≢false n)
+    by false n e = (cc)
+met-some (code s) (code t) u h l e = absurd (cc)
+met-some (text s) g u h l e = by (is_blank_text s) (not-blank s h) e
+  where
+    by : (b : Bool) → b ≡ false
+        → cond (b || false) (past_gaps (one_inline g)) (inline (text s) (one_inline g)) ≡ no_inlines → ⊥
+    by true n e = absurd (true≢false n)
+    by false n e = (cc)
+met-some (code s) g u h l e = absurd (cc)
+met-some line_break g u h l e = absurd h
+met-some (anchor id) g u h l e = absurd (true≢false l)
+met-some x g u h l e = absurd (cc)
+
+joined-some : (xs : Inlines) (g : Inline) → Shaped xs → Ends xs → LastSeen xs
+    → past_gaps (joined xs g) ≡ no_inlines → ⊥
+joined-some no_inlines g h n l e = absurd l
+joined-some (inline x no_inlines) g h n l e = met-some x g h.0 n l e
+joined-some (inline x (inline z zs)) g h n l e =
+    by (is_gap x || is_anchor x) (λ f. joined-some (inline z zs) g h.2 n l f) e
+  where
+    by : (b : Bool) → (past_gaps (joined (inline z zs) g) ≡ no_inlines → ⊥)
+        → cond b (past_gaps (joined (inline z zs) g)) (inline x (joined (inline z zs) g)) ≡ no_inlines → ⊥
+    by true f e = f e
+    by false f e = (cc)
+
+pub gap-follow : (xs : Inlines) (g w : Inline) → Shaped xs → Ends xs → LastSeen xs → LastApart xs w
+    → IsGapInline g → Follows (joined xs g) w
+gap-follow no_inlines g w h e l a i = absurd l
+gap-follow (inline x no_inlines) g w h e l a i = met-follow x g w a i
+gap-follow (inline v (inline x xs)) g w h e l a i = (
+  λ q. absurd (joined-some (inline x xs) g h.2 e l q),
+  gap-follow (inline x xs) g w h.2 e l a i,
+)
+
+-- ---- an anchor, and what follows it
+
+pub anchor-plain : (id : List ℕ) (v : Inline) → is_same_around v (anchor id) ≡ false
+anchor-plain id (formatted f c) = refl
+anchor-plain id v = refl
+
+anchor-none : (xs : Inlines) (id : List ℕ) → past_gaps (joined xs (anchor id)) ≡ no_inlines
+    → past_gaps xs ≡ no_inlines
+anchor-none no_inlines id e = refl
+anchor-none (inline x no_inlines) id e = met x e
+  where
+    by : (b : Bool) → (x : Inline) → cond b no_inlines (inline x (one_inline (anchor id))) ≡ no_inlines
+        → cond b no_inlines (one_inline x) ≡ no_inlines
+    by true x e = refl
+    by false x e = absurd (cc)
+
+    met : (x : Inline) → past_gaps (joined (one_inline x) (anchor id)) ≡ no_inlines
+        → past_gaps (one_inline x) ≡ no_inlines
+    met (text s) e = by (is_gap (text s) || is_anchor (text s)) (text s) e
+    met (code s) e = by (is_gap (code s) || is_anchor (code s)) (code s) e
+    met x e = by (is_gap x || is_anchor x) x e
+anchor-none (inline x (inline z zs)) id e =
+    by (is_gap x || is_anchor x) (λ f. anchor-none (inline z zs) id f) e
+  where
+    by : (b : Bool)
+        → (past_gaps (joined (inline z zs) (anchor id)) ≡ no_inlines → past_gaps (inline z zs) ≡ no_inlines)
+        → cond b (past_gaps (joined (inline z zs) (anchor id))) (inline x (joined (inline z zs) (anchor id)))
+        ≡ no_inlines → cond b (past_gaps (inline z zs)) (inline x (inline z zs)) ≡ no_inlines
+    by true f e = f e
+    by false f e = absurd (cc)
+
+pub anchor-follow : (xs : Inlines) (id : List ℕ) (w : Inline) → Follows xs w → Follows (joined xs (anchor id)) w
+anchor-follow no_inlines id w f = (λ q. refl, tt)
+anchor-follow (inline (text s) no_inlines) id w f = (λ q. f.0 refl, (λ q. refl, tt))
+anchor-follow (inline (code s) no_inlines) id w f = (λ q. f.0 refl, (λ q. refl, tt))
+anchor-follow (inline x no_inlines) id w f = (λ q. f.0 refl, (λ q. refl, tt))
+anchor-follow (inline x (inline z zs)) id w f =
+    (λ q. f.0 (anchor-none (inline z zs) id q), anchor-follow (inline z zs) id w f.1)
 
 -- ---- code that goes on
 
@@ -400,13 +502,19 @@ pub code-shaped : (xs : Inlines) (u : List ℕ) → Shaped xs → LastCode xs �
     → Shaped (joined xs (code u))
 code-shaped no_inlines u h l e i = absurd l
 code-shaped (inline (code s) no_inlines) u h l e i =
-    ((start-append s u h.0.0, end-append s u h.0.2 e, IsUtf8-append s u h.0.2 i), tt, tt, tt)
-code-shaped (inline x (inline (code s) no_inlines)) u h l e i =
-    (h.0, tt, code-shaped (inline (code s) no_inlines) u h.2 l e i, beside-code x (s ++ u))
-code-shaped (inline x (inline y (inline (code s) no_inlines))) u h l e i =
-    (h.0, λ q. code-plain (s ++ u) x, code-shaped (inline y (inline (code s) no_inlines)) u h.2 l e i, h.3)
-code-shaped (inline x (inline y (inline z (inline w ws)))) u h l e i =
-    (h.0, h.1, code-shaped (inline y (inline z (inline w ws))) u h.2 l e i, h.3)
+    ((start-append s u h.0.0, end-append s u h.0.2 e, IsUtf8-append s u h.0.2 i), refl, tt, tt)
+code-shaped (inline x (inline (code s) no_inlines)) u h l e i = (
+  h.0,
+  one-on x (code (s ++ u)) (code-plain (s ++ u) x),
+  code-shaped (inline (code s) no_inlines) u h.2 l e i,
+  beside-code x (s ++ u),
+)
+code-shaped (inline x (inline y (inline z zs))) u h l e i = (
+  h.0,
+  joined-on x (inline y (inline z zs)) (code u) h.1 (λ q. code-plain u x),
+  code-shaped (inline y (inline z zs)) u h.2 l e i,
+  h.3,
+)
 code-shaped xs u h l e i = absurd l
 
 pub code-twice : (xs : Inlines) (s t : List ℕ) → LastCode xs

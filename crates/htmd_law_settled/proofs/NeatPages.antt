@@ -1,8 +1,8 @@
 -- The trees that the document of a page is made of have neat leaves.
-use Rattle.std.proofs.Common.{◌≡◌, ℕ, Bool, true, false, List, [], ◌∷◌, Option, Some, None, refl, ap, sym, ◌∙◌, subst}
+use Rattle.std.proofs.Common.{◌≡◌, ℕ, true, false, List, [], ◌∷◌, Option, Some, None, refl, ap, sym, ◌∙◌, subst}
 use Rattle.std.specs.Prelude.{codes, not, ◌&&◌}
 use Rattle.std.specs.Str.{chars, is_utf8, IsUtf8}
-use Rattle.std.proofs.lemmas.Bool.{and_from, and_parts}
+use Rattle.std.proofs.lemmas.Bool.{and_from, and_parts, true≢false}
 use Rattle.std.proofs.lemmas.Str.{scalars-chars}
 use Rattle.htmd_lexical.specs.Characters.{space}
 use Rattle.htmd_lexical.specs.AttributePairs.{AttributePair}
@@ -22,12 +22,8 @@ use Rattle.htmd_document.specs.declared.document.Format as declared_format
 use Rattle.htmd_document.specs.declared.document.Format.TheVariants as declared
 use Rattle.htmd_document.specs.declared.document.InlineElement as declared_element
 use Rattle.htmd_document.specs.declared.document.InlineElement.TheVariants as written
-use Rattle.htmd_document.specs.Documents.{Items}
 use Rattle.htmd_document.specs.Formats.{of_format, of_element}
-use Rattle.htmd_lexical.proofs.Cases.{test}
-use Rattle.htmd_law_rendering.specs.PlainReadings.{items_have_no_elements}
 use Rattle.htmd_law_returning.specs.PageFormats.{format_shows}
-use Rattle.htmd_law_returning.specs.SettledDocuments.{is_right_list}
 use Rattle.htmd_document_of_tree.specs.declared.anchors.Anchors.{Anchors}
 use Rattle.htmd_document_of_tree.specs.Anchors.{Placing, anchors, all_placed, placing_after_all, values_of}
 use Rattle.htmd_document_of_tree.specs.Anchors.{last_anchors, targets_by}
@@ -35,14 +31,16 @@ use Rattle.htmd_document_of_tree.specs.FirstPieces.{pieced, pieced_all}
 use Rattle.htmd_document_of_tree.specs.Limits.{limited}
 use Rattle.htmd_document_of_tree.specs.Targets.{Target}
 use Rattle.htmd_document_of_tree.specs.TreeDocuments.{document_by, document_of_tree}
-use Rattle.htmd_flow.specs.Contexts.{bare_in}
+use Rattle.htmd_document.specs.Documents.{block}
+use Rattle.htmd_flow.specs.Contexts.{Context, bare_in}
 use Rattle.htmd_flow.specs.Flows.{flow_all, nodes_of}
 use Rattle.htmd_flow.specs.Languages.{language_of_block}
 use Rattle.htmd_flow.specs.Levels.{list_of}
-use Rattle.htmd_law_documents.specs.SimpleForms.{AreSound}
+use Rattle.htmd_shown.specs.Showings.{show}
+use Rattle.htmd_law_documents.specs.SimpleForms.{IsSound, AreSound}
 use Rattle.htmd_law_documents.specs.TreeForms.{is_text_tree}
 use Rattle.htmd_law_documents.proofs.ShownTreeLemmas.{page-sound}
-use Rattle.htmd_law_documents.proofs.SoundLemmas.{limited-sound, all-placed-kept}
+use Rattle.htmd_law_documents.proofs.SoundLemmas.{limited-sound, all-placed-kept, pieced-sound}
 use Rattle.htmd_law_documents.specs.DocumentTexts.{visible}
 use Rattle.htmd_law_documents.proofs.VisibleLemmas.{shows-itself}
 use Rattle.htmd_law_documents.proofs.CodeLemmas.{feeds-show, trimmed-shows}
@@ -51,16 +49,20 @@ use Rattle.htmd_law_documents.proofs.NormalCodeLemmas.{feeds-clean}
 use Rattle.htmd_law_documents.proofs.NormalValueLemmas.{IsClean, IsBlack, clean-nil, AreTexts, value-text}
 use Rattle.htmd_law_documents.proofs.NormalValueLemmas.{in_line-clean}
 use Rattle.htmd_law_documents.proofs.NormalTreeLemmas.{AreIds, IsFine, AreFine, IsLed, IsLedApart, by-content}
-use Rattle.htmd_law_documents.proofs.NormalTreeLemmas.{content-text}
+use Rattle.htmd_law_documents.proofs.NormalTreeLemmas.{Content, content-text}
+use Rattle.htmd_law_documents.proofs.NormalFilledLemmas.{Seen, parts-filled, parts-cell}
+use Rattle.htmd_law_documents.proofs.NormalSeenTreeLemmas.{content-seen}
 use Rattle.htmd_law_documents.proofs.NormalShownLemmas.{AreClear, page-clear}
 use Rattle.htmd_law_documents.proofs.NormalPlacedLemmas.{limited-clear, AllNamed, targets-named, all-after-named}
 use Rattle.htmd_law_documents.proofs.NormalPlacedLemmas.{ArePlaced, all-placed-fine, anchors-ids, values-ids}
 use Rattle.htmd_law_documents.proofs.NormalPiecedLemmas.{pieced-ids, all-pieced-fine}
 use Rattle.htmd_law_documents.specs.WrapperLaws.{final_trees}
+use Rattle.htmd_law_settled.proofs.LeafLines.{AllowsElements}
 use Rattle.htmd_law_settled.specs.Leaves.{Leaves}
-use Rattle.htmd_law_settled.specs.NeatLeaves.{neat, is_neat_code, is_neat_list, LeavesAreNeat, NumbersFit}
+use Rattle.htmd_law_settled.specs.NeatLeaves.{neat, is_neat_code, LeavesAreNeat, NumbersFit}
 use Rattle.htmd_law_settled.proofs.LeafLines.{AllCharacters, all-characters, HaveBlocks, parts-blocks}
-use Rattle.htmd_law_settled.proofs.LeafNodes.{flow-has}
+use Rattle.htmd_law_settled.proofs.LeafNodes.{MayHaveTables, flow-has}
+use Rattle.htmd_law_settled.proofs.ShownHeaders.{FillsCells, FillsBlocks}
 use Rattle.htmd_law_settled.proofs.LeafElements.{HasTitle, HasElement, HasRole, HasLines, HasCode, HasImage, HasTree}
 use Rattle.htmd_law_settled.proofs.LeafElements.{HaveTrees}
 use Rattle.htmd_law_settled.proofs.LeafElements.{nodes-have}
@@ -210,62 +212,94 @@ ids-have (more (formula tex is_alone attributes) ts) h = absurd h
 ids-have (more (embedded id s title attributes ids) ts) h = absurd h
 ids-have (more (element id r facts attributes content) ts) h = absurd h
 
+-- nothing shows of them
+ids-unseen : (ts : Simples) → AreIds ts → show false ts ≡ false
+ids-unseen none h = refl
+ids-unseen (more (anchor id) ts) h = ids-unseen ts h.1
+ids-unseen (more (text s) ts) h = absurd h
+ids-unseen (more (image o attributes) ts) h = absurd h
+ids-unseen (more (formula tex is_alone attributes) ts) h = absurd h
+ids-unseen (more (embedded id s title attributes ids) ts) h = absurd h
+ids-unseen (more (element id r facts attributes content) ts) h = absurd h
+
 -- an element for anchors alone
 anchors-have : (id : ℕ) (facts : Facts) (attributes : List AttributePair) (inner : Simples) → AreIds inner
     → HasTree leaves (element id role.Anchors facts attributes inner)
 anchors-have id facts attributes inner h =
     let own : HasRole leaves role.Anchors attributes =
-    record { link = λ e. absurd (cc); title = λ e. absurd (cc); element = tt } in
-    (own, code-has attributes inner (ids-clean inner h), ids-have inner h)
+    record { link = λ e. absurd (cc); title = λ e. absurd (cc); element = tt } in (
+      own,
+      code-has attributes inner (ids-clean inner h),
+      ids-have inner h,
+      λ e. absurd (true≢false (sym e ∙ ids-unseen inner h)),
+      λ e. absurd (cc),
+    )
 
 -- ---- trees
 
 one-tree : (t : Simple) (ts : Simples) → HasTree leaves t → ts ≡ none → HaveTrees leaves (more t ts)
 one-tree t ts h e = subst (λ (us : Simples). HaveTrees leaves (more t us)) (sym e) (h, tt)
 
+-- what shows of rich documents gives blocks, and fills cells
+module _ (r : Role) (content : Simples) (k : Content r content) (u : AreSound content) where
+  seen : (c : Context) → c.is_rich ≡ true → c.is_flat ≡ false
+      → Seen false (show false content) (flow_all (nodes_of content) c)
+  seen c rich blocks = content-seen r content k u false c (record { rich = rich; line = blocks })
+
+  filled : FillsBlocks (show false content) (flow_all (nodes_of content))
+  filled c rich blocks =
+      parts-filled false (show false content) (flow_all (nodes_of content) c) (seen c rich blocks)
+
+  fills : FillsCells (show false content) (flow_all (nodes_of content))
+  fills e c rich blocks p =
+      parts-cell (show false content) (flow_all (nodes_of content) c) (seen c rich blocks) p
+      ∙ ap not (filled c rich blocks ∙ e)
+
 mutual
-  tree-has : (t : Simple) → IsFine t → HasTree leaves t
-  tree-has (text s) h = clean-characters s h
-  tree-has (image o attributes) h = image-has o attributes h.0 h.1
-  tree-has (formula tex is_alone attributes) h =
+  tree-has : (t : Simple) → IsFine t → IsSound t → HasTree leaves t
+  tree-has (text s) h u = clean-characters s h
+  tree-has (image o attributes) h u = image-has o attributes h.0 h.1
+  tree-has (formula tex is_alone attributes) h u =
       let code : IsShown (trimmed (with_line_feeds tex)) = formula-shown tex h.0 in (
         clean-characters (in_line tex) (in_line-clean tex h.0.utf8),
         neat-code (Some (codes "math")) (trimmed (with_line_feeds tex)) refl code (formula-filled tex h),
       )
-  tree-has (embedded id s title attributes ids) h = (
+  tree-has (embedded id s title attributes ids) h u = (
     and_from (is_settled_address (encoded_address s)) true (attribute-settled s h.0) refl,
     clean-characters title
         h.1,
   )
-  tree-has (anchor id) h = absurd h
-  tree-has (element id r facts attributes content) h = (
+  tree-has (anchor id) h u = absurd h
+  tree-has (element id r facts attributes content) h u = (
     role-has r attributes h.0,
     code-has attributes content (content-text r content h.2),
-    by-content (HaveTrees leaves content) r content (λ k. trees-have content k) (λ e k. led-have content k)
-        (λ e k. apart-have content k) h.2,
+    by-content (HaveTrees leaves content) r content (λ k. trees-have content k u.1) (λ e k. led-have content k u.1)
+        (λ e k. apart-have content k u.1) h.2,
+    fills r content h.2 u.1,
+    λ e. filled r content h.2 u.1,
   )
 
-  trees-have : (ts : Simples) → AreFine ts → HaveTrees leaves ts
-  trees-have none h = tt
-  trees-have (more t ts) h = (tree-has t h.0, trees-have ts h.1)
+  trees-have : (ts : Simples) → AreFine ts → AreSound ts → HaveTrees leaves ts
+  trees-have none h u = tt
+  trees-have (more t ts) h u = (tree-has t h.0 u.0, trees-have ts h.1 u.1)
 
-  led-have : (ts : Simples) → IsLed ts → HaveTrees leaves ts
-  led-have none h = absurd h
-  led-have (more (anchor id) ts) h = (tt, led-have ts h.1)
-  led-have (more (text s) ts) h = one-tree (text s) ts (tree-has (text s) h.0) h.2
-  led-have (more (image o attributes) ts) h =
-      one-tree (image o attributes) ts (tree-has (image o attributes) h.0) h.2
-  led-have (more (formula tex is_alone attributes) ts) h =
-      one-tree (formula tex is_alone attributes) ts (tree-has (formula tex is_alone attributes) h.0) h.2
-  led-have (more (embedded id s title attributes ids) ts) h =
-      one-tree (embedded id s title attributes ids) ts (tree-has (embedded id s title attributes ids) h.0) h.2
-  led-have (more (element id r facts attributes content) ts) h =
-      one-tree (element id r facts attributes content) ts (tree-has (element id r facts attributes content) h.0) h.2
+  led-have : (ts : Simples) → IsLed ts → AreSound ts → HaveTrees leaves ts
+  led-have none h u = absurd h
+  led-have (more (anchor id) ts) h u = (tt, led-have ts h.1 u.1)
+  led-have (more (text s) ts) h u = one-tree (text s) ts (tree-has (text s) h.0 u.0) h.2
+  led-have (more (image o attributes) ts) h u =
+      one-tree (image o attributes) ts (tree-has (image o attributes) h.0 u.0) h.2
+  led-have (more (formula tex is_alone attributes) ts) h u =
+      one-tree (formula tex is_alone attributes) ts (tree-has (formula tex is_alone attributes) h.0 u.0) h.2
+  led-have (more (embedded id s title attributes ids) ts) h u =
+      one-tree (embedded id s title attributes ids) ts (tree-has (embedded id s title attributes ids) h.0 u.0) h.2
+  led-have (more (element id r facts attributes content) ts) h u =
+      one-tree (element id r facts attributes content) ts (tree-has (element id r facts attributes content) h.0 u.0) h.2
 
-  apart-have : (ts : Simples) → IsLedApart ts → HaveTrees leaves ts
-  apart-have (more (element id role.Anchors facts attributes inner) (more t ts)) h =
-      (anchors-have id facts attributes inner h.0, one-tree t ts (tree-has t h.1) h.3)
-  apart-have ts h = absurd h
+  apart-have : (ts : Simples) → IsLedApart ts → AreSound ts → HaveTrees leaves ts
+  apart-have (more (element id role.Anchors facts attributes inner) (more t ts)) h u =
+      (anchors-have id facts attributes inner h.0, one-tree t ts (tree-has t h.1 u.1.0) h.3)
+  apart-have ts h u = absurd h
 
 -- ---- pages
 
@@ -303,34 +337,31 @@ trees-neat which sight tree e =
     let last : List Target = (placing_after_all p ts).targets in
     subst (HaveTrees leaves) (sym (pieced-followed (all_placed p ts) (last_anchors last)))
     (followed-have (pieced_all (all_placed p ts)) (pieced_all (last_anchors last))
-    (trees-have (pieced_all (all_placed p ts)) fine) (last-have last (all-after-named p ts named)))
+    (trees-have (pieced_all (all_placed p ts)) fine (pieced-sound (all_placed p ts) kept))
+    (last-have last (all-after-named p ts named)))
 
 pub document-has : (k : Leaves) → k.character space ≡ true → k.character dollar_sign ≡ true
     → ((g : declared_format.Format) → k.format (of_format g) ≡ true)
-    → (which : Anchors) (sight : Sight) (tree : NumberedTree) → (sight.is_rich ≡ true → k.elements ≡ true)
-    → HaveTrees k (final_trees which sight tree) → HaveBlocks k 0 (document_of_tree which sight tree)
+    → (which : Anchors) (sight : Sight) (tree : NumberedTree) → (sight.is_rich ≡ true → AllowsElements k)
+    → MayHaveTables k sight.is_rich → HaveTrees k (final_trees which sight tree)
+    → HaveBlocks k 0 (document_of_tree which sight tree)
 unfolding document_of_tree document_by
-document-has k spaces dollars formats which sight tree r have =
+document-has k spaces dollars formats which sight tree r tables have =
     let all : Simples = final_trees which sight tree in
     parts-blocks k spaces 0 false (flow_all (nodes_of all) (bare_in sight.is_rich))
     (flow-has k spaces (nodes_of all) (nodes-have k spaces dollars formats all have)
-    0 (bare_in sight.is_rich) (record { around = tt; rich = r; nested = refl }))
+    0 (bare_in sight.is_rich) (record { around = tt; rich = r; nested = refl; tables = tables }))
 
-neat-document : (which : Anchors) (sight : Sight) (tree : NumberedTree)
+pub neat-document : (which : Anchors) (sight : Sight) (tree : NumberedTree)
     → is_text_tree tree ≡ true → HaveBlocks leaves 0 (document_of_tree which sight tree)
 neat-document which sight tree e =
-    document-has leaves refl refl any-format which sight tree (λ r. refl) (trees-neat which sight tree e)
-
-neat-list : (is_tight : Bool) (items : Items)
-    → (items_have_no_elements items ≡ true → is_right_list is_tight items ≡ true)
-    → is_neat_list is_tight items ≡ true
-neat-list is_tight items h = test (items_have_no_elements items) (λ e. rw (e, h e) refl) (λ e. rw e refl)
+    document-has leaves refl refl any-format which sight tree (λ r name attributes content e. e)
+    (λ header rows shown headed. shown) (trees-neat which sight tree e)
 
 pub leaves-neat : LeavesAreNeat
 leaves-neat which sight tree e =
-    leaves-encoded (document_of_tree which sight tree) ∙ blocks-hold leaves neat-holds neat-list
-    (λ header rows h. h) 0
-    (document_of_tree which sight tree)
+    leaves-encoded (document_of_tree which sight tree) ∙ blocks-hold leaves neat-holds (λ is_tight items h. h)
+    0 (document_of_tree which sight tree)
     (neat-document which sight tree e)
 
 pub numbers-fit : NumbersFit

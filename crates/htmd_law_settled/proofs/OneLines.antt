@@ -20,9 +20,6 @@ use Rattle.htmd_law_documents.proofs.NormalValueLemmas.{AreTexts, in_line-clean}
 use Rattle.htmd_law_documents.proofs.PiecesLemmas.{onto}
 use Rattle.htmd_law_returning.specs.SettledDocuments.{is_one_line, is_settled_title}
 
-abbrev is_white_byte : ℕ → Bool
-is_white_byte b = is_ascii_white_space b
-
 abbrev is_word_byte : ℕ → Bool
 is_word_byte b = not (is_ascii_white_space b)
 

@@ -29,9 +29,10 @@ use Rattle.htmd_law_documents.specs.TreeForms.{is_text_tree}
 use Rattle.htmd_law_documents.specs.WrapperLaws.{final_trees}
 use Rattle.htmd_law_returning.specs.PageFormats.{format_shows, inline_shows, line_shows, block_shows, formats_show}
 use Rattle.htmd_law_returning.specs.PageFormats.{items_show}
+use Rattle.htmd_law_returning.specs.SettledDocuments.{is_right_list}
 use Rattle.htmd_law_settled.specs.Leaves.{Leaves, is_inline_of, is_line_of, is_whole_line_of, are_cells_of}
 use Rattle.htmd_law_settled.specs.Leaves.{is_block_of, are_blocks_of, are_items_of}
-use Rattle.htmd_law_settled.specs.NeatLeaves.{neat, is_neat_line, is_neat_list, NoBlockIsElement}
+use Rattle.htmd_law_settled.specs.NeatLeaves.{neat, is_neat_line, is_neat_element, NoBlockIsElement}
 use Rattle.htmd_law_settled.proofs.LeafHolds.{blocks-plain}
 use Rattle.htmd_law_settled.proofs.LeafLines.{AllCharacters, HasInline, HasLine, HaveCells, HaveRows, HasBlock}
 use Rattle.htmd_law_settled.proofs.LeafLines.{HaveBlocks}
@@ -51,7 +52,7 @@ plain = record {
   line = λ xs. true;
   list = λ is_tight items. true;
   table = λ header rows. true;
-  elements = false;
+  element = λ name attributes content. false;
 }
 
 -- ---- trees
@@ -102,6 +103,8 @@ mutual
       block = λ near e. refl;
     },
     trees-plain-too content h.2 p.1,
+    h.3,
+    h.4,
   )
 
   trees-plain-too : (ts : Simples) → HaveTrees leaves ts → ArePlain ts → HaveTrees plain ts
@@ -187,6 +190,7 @@ plain-document : (which : Anchors) (sight : Sight) (tree : NumberedTree) → sig
     → is_text_tree tree ≡ true → HaveBlocks plain 0 (document_of_tree which sight tree)
 plain-document which sight tree r e =
     document-has plain refl refl format-plain which sight tree (λ rich. absurd (false≢true (sym r ∙ rich)))
+    (λ header rows shown headed. refl)
     (trees-plain-too (final_trees which sight tree) (trees-neat which sight tree e) (trees-plain which sight tree r))
 
 pub formats-shown : (which : Anchors) (sight : Sight) (tree : NumberedTree) → sight.is_rich ≡ false
@@ -197,7 +201,8 @@ formats-shown which sight tree r e is_rich =
 
 pub no-element : NoBlockIsElement
 no-element which sight tree r e =
-    blocks-plain plain refl 0 (document_of_tree which sight tree) (plain-document which sight tree r e)
+    blocks-plain plain (λ name attributes content. refl) 0 (document_of_tree which sight tree)
+    (plain-document which sight tree r e)
 
 -- ---- rich pages
 
@@ -246,13 +251,14 @@ mutual
   neat-block (quote content) h = neat-shown content h
   neat-block thematic_break h = refl
   neat-block (list start is_tight items) h =
-      neat-items items (and_parts (is_neat_list is_tight items) (are_items_of neat items) h).1
+      neat-items items (and_parts (is_right_list is_tight items) (are_items_of neat items) h).1
   neat-block (table alignments header rows) h =
       let q = and_parts (neat.table header rows) (are_cells_of neat header && list_all (are_cells_of neat) rows) h in
       let p = and_parts (are_cells_of neat header) (list_all (are_cells_of neat) rows) q.1 in
       and_from (list_all (line_shows true) header) (list_all (list_all (line_shows true)) rows) (neat-cells header p.0)
       (neat-rows rows p.1)
-  neat-block (element name attributes content) h = neat-shown content h
+  neat-block (element name attributes content) h =
+      neat-shown content (and_parts (is_neat_element name attributes content) (are_blocks_of neat content) h).1
   neat-block (tags s) h = refl
 
   -- what is neat shows on a rich page

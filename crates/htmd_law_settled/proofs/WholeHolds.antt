@@ -1,21 +1,26 @@
 -- A line that is whole by types is whole by tests, and has no white space beside breaks.
 use Rattle.std.proofs.Common.{◌≡◌, ℕ, Bool, true, false, not, ◌&&◌, List, [], ◌∷◌, refl, sym, ap, ◌∙◌, subst}
+use Rattle.std.specs.Prelude.{cond, ◌||◌}
 use Rattle.std.specs.Str.{chars}
-use Rattle.std.proofs.lemmas.Bool.{and_from}
+use Rattle.std.proofs.lemmas.Bool.{and_from, false≢true}
 use Rattle.htmd_lexical.specs.Characters.{space}
 use Rattle.htmd_lexical.specs.CharacterClasses.{first_is}
 use Rattle.htmd_lexical.proofs.Cases.{test}
-use Rattle.htmd_document.specs.Documents.{Inline, text, code, formatted, link, line_break, task, Inlines, no_inlines}
-use Rattle.htmd_document.specs.Documents.{inline}
-use Rattle.htmd_law_returning.specs.WholeLines.{ends_white_text, begins_white, ends_white, is_gap}
+use Rattle.htmd_document.specs.Documents.{Inline, text, code, formatted, link, anchor, line_break, task, Inlines}
+use Rattle.htmd_document.specs.Documents.{no_inlines, inline}
+use Rattle.htmd_document.specs.NormalInlines.{is_anchor}
+use Rattle.htmd_law_returning.specs.LastingAnchors.{past_gaps, goes_on}
+use Rattle.htmd_law_returning.specs.WholeLines.{ends_white_text, begins_white, ends_white, is_gap, is_same_around}
 use Rattle.htmd_law_returning.specs.WholeLines.{is_apart, is_whole_inside, are_whole_inside, is_whole}
 use Rattle.htmd_law_returning.proofs.BoxLemmas.{characters-behind-space}
 use Rattle.htmd_law_settled.proofs.LineShapes.{BlackStart, BlackEnd}
 use Rattle.htmd_law_settled.proofs.LineShapes.{Starts, Ends, Apart, BesideFirst, ShapedInline, Shaped, Whole}
 use Rattle.htmd_law_settled.proofs.BoxShapes.{begins-black, ends-black}
 use Rattle.htmd_law_settled.specs.BareBreaks.{is_bare_inside, has_bare_breaks}
-use Rattle.htmd_law_settled.specs.NeatLeaves.{is_neat_line}
-use Rattle.htmd_law_returning.specs.SettledDocuments.{is_white_at_break}
+use Rattle.htmd_law_returning.specs.LastingAnchors.{inline_keeps, all_keep}
+use Rattle.htmd_law_settled.specs.NeatLeaves.{any_id}
+use Rattle.htmd_law_settled.specs.NeatLeaves.{is_box_spaced, is_neat_line}
+use Rattle.htmd_law_returning.specs.SettledDocuments.{is_white_at_break, behind_box}
 
 starts-hold : (xs : Inlines) → Starts xs → begins_white xs ≡ false
 starts-hold no_inlines h = refl
@@ -30,10 +35,31 @@ ends-hold (inline line_break no_inlines) h = absurd h
 ends-hold (inline x no_inlines) h = refl
 ends-hold (inline x (inline y ys)) h = ends-hold (inline y ys) h
 
+-- what is passed is no format
+passed-plain : (x z : Inline) → (is_gap z || is_anchor z) ≡ true → is_same_around x z ≡ false
+passed-plain (formatted f c) (formatted g d) e = absurd (false≢true e)
+passed-plain (formatted f c) z e = refl
+passed-plain x z e = refl
+
+first-apart : (x z : Inline) (zs : Inlines) → Apart x (inline z zs) → is_same_around x z ≡ false
+first-apart x z zs h = by (is_gap z || is_anchor z) refl h
+  where
+    by : (b : Bool) → (is_gap z || is_anchor z) ≡ b → goes_on x (cond b (past_gaps zs) (inline z zs)) ≡ false
+        → is_same_around x z ≡ false
+    by true e h = passed-plain x z e
+    by false e h = h
+
 apart-holds : (x : Inline) (xs : Inlines) → Apart x xs → is_apart x xs ≡ true
 apart-holds x no_inlines h = refl
 apart-holds x (inline y no_inlines) h = refl
-apart-holds x (inline y (inline z zs)) h = test (is_gap y) (λ e. rw (e, h e) refl) (λ e. rw e refl)
+apart-holds x (inline y (inline z zs)) h =
+    test (is_gap y)
+    (λ e. rw (
+      e,
+      first-apart x z zs (sym (ap
+          (λ b. goes_on x (cond (b || is_anchor y) (past_gaps (inline z zs)) (inline y (inline z zs)))) e) ∙ h),
+    ) refl)
+    (λ e. rw e refl)
 
 ends-both : (xs : Inlines) → are_whole_inside xs ≡ true → Starts xs → Ends xs → is_whole xs ≡ true
 ends-both xs e g h = rw (e, starts-hold xs g, ends-hold xs h) refl
@@ -130,8 +156,12 @@ spaced-neat : (c : ℕ) (s : List ℕ) (a b : Bool) → c ≡ space → (a && b)
     → (first_is space (c ∷ s) && a && b) ≡ true
 spaced-neat c s a b e q = rw e q
 
+-- all but what is behind anchors
+abbrev is_spaced_whole : Inlines → Bool
+is_spaced_whole xs = is_box_spaced xs && is_whole (behind_box xs) && has_bare_breaks (behind_box xs)
+
 box-neat : (is_checked : Bool) (xs : Inlines) → Whole (inline (task is_checked) xs)
-    → is_neat_line (inline (task is_checked) xs) ≡ true
+    → is_spaced_whole (inline (task is_checked) xs) ≡ true
 box-neat k no_inlines h = absurd h.3
 box-neat k (inline (text (c ∷ [])) xs) h =
     spaced-neat c [] (is_whole xs) (has_bare_breaks xs) h.3.0
@@ -141,7 +171,28 @@ box-neat k (inline (text (c ∷ d ∷ s)) xs) h =
     (text-neat c (d ∷ s) xs h.3.0 h.0.2 h.3.1 h.2)
 box-neat k (inline x xs) h = absurd h.3
 
+behind-neat : (xs : Inlines) → Whole xs → is_spaced_whole xs ≡ true
+behind-neat no_inlines h = refl
+behind-neat (inline (task d) xs) h = box-neat d xs h
+behind-neat (inline x xs) h = line-neat (inline x xs) h.0 h.1 h.2
+
+-- ---- anchors
+
+behind-anchor : (x : Inline) (xs : Inlines) → BesideFirst x xs → (is_anchor x && begins_white xs) ≡ false
+behind-anchor (anchor id) no_inlines b = refl
+behind-anchor (anchor id) (inline y ys) b = starts-hold (inline y ys) b
+behind-anchor x xs b = refl
+
+mutual
+  inline-kept : (x : Inline) → ShapedInline x → inline_keeps any_id x ≡ true
+  inline-kept (formatted f content) h = line-kept content h.0
+  inline-kept (link address title content) h = line-kept content h.0
+  inline-kept x h = refl
+
+  line-kept : (xs : Inlines) → Shaped xs → all_keep any_id xs ≡ true
+  line-kept no_inlines h = refl
+  line-kept (inline x xs) h =
+      rw (inline-kept x h.0, behind-anchor x xs h.3, h.1, line-kept xs h.2) refl
+
 pub neat-holds : (xs : Inlines) → Whole xs → is_neat_line xs ≡ true
-neat-holds no_inlines h = refl
-neat-holds (inline (task d) xs) h = box-neat d xs h
-neat-holds (inline x xs) h = line-neat (inline x xs) h.0 h.1 h.2
+neat-holds xs h = and_from (is_spaced_whole xs) (all_keep any_id xs) (behind-neat xs h) (line-kept xs h.0)

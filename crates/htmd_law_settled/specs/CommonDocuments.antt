@@ -1,42 +1,43 @@
 -- What is left to ask of a page's document so that it comes back: all else that this takes holds of each.
-use Rattle.std.specs.Prelude.{Bool, true, false, ◌&&◌, ◌||◌}
-use Rattle.std.specs.List.{list_all}
-use Rattle.htmd_document.specs.Documents.{Inline, text, code, formatted, link, image, line_break, Inlines, no_inlines}
-use Rattle.htmd_document.specs.Documents.{inline, Block, paragraph, heading, code_block, quote, thematic_break}
-use Rattle.htmd_document.specs.Documents.{list, table, element, Blocks, no_blocks, block, Items, no_items, item}
-use Rattle.htmd_law_rendering.specs.PlainReadings.{blocks_have_no_elements, items_have_no_elements, elements_fit}
-use Rattle.htmd_law_returning.specs.SettledDocuments.{are_away, behind_box, is_light, is_settled_element}
+use Rattle.std.specs.Prelude.{Bool, true, false, ◌&&◌, nat_le, List, []}
+use Rattle.htmd_document.specs.Documents.{Inlines, Block, heading, quote, list, element, Blocks, no_blocks, block}
+use Rattle.htmd_document.specs.Documents.{Items, no_items, item, BlockAttribute}
+use Rattle.htmd_document.specs.declared.document.BlockElement.{BlockElement}
+use Rattle.htmd_document.specs.declared.document.BlockElement.TheVariants as an
+use Rattle.htmd_document_of_tree.specs.declared.anchors.Anchors.{Anchors}
+use Rattle.htmd_document_of_tree.specs.declared.anchors.Anchors.TheVariants as which
+use Rattle.htmd_law_rendering.specs.PlainReadings.{trees_depth}
+use Rattle.htmd_law_returning.specs.LastingAnchors.{are_placed, lines_in, are_led_to}
+use Rattle.htmd_law_returning.specs.NoAnchors.{blocks_have_no_anchors}
+use Rattle.htmd_law_returning.specs.SettledDocuments.{are_away, is_light}
+use Rattle.htmd_law_returning.specs.SettledDocuments.{is_title, is_caption}
+use Rattle.htmd_law_returning.specs.SettledDocuments.{are_in_figure}
+use Rattle.htmd_law_returning.specs.SettledTables.{takes_one_row, are_lean}
 
-abbrev mutual
-  pub is_common_inline : Inline → Bool
-  is_common_inline (text s) = true
-  is_common_inline (code s) = true
-  is_common_inline (formatted f content) = are_common_inlines content
-  is_common_inline (link address title content) = are_common_inlines content
-  is_common_inline (image address title description) = true
-  is_common_inline line_break = true
-  -- no anchors so far; tasks begin paragraphs alone
-  is_common_inline x = false
-
-  pub are_common_inlines : Inlines → Bool
-  are_common_inlines no_inlines = true
-  are_common_inlines (inline x rest) = is_common_inline x && are_common_inlines rest
+-- so far these alone
+abbrev pub is_common_element : BlockElement → List BlockAttribute → Blocks → Bool
+is_common_element an.Details attributes content = true
+is_common_element an.Summary attributes content = is_title content
+is_common_element an.Terms attributes content = true
+is_common_element an.Term attributes content = is_title content
+is_common_element an.Meaning attributes content = true
+is_common_element an.Figure attributes content = are_in_figure content
+is_common_element an.FigureCaption attributes content = is_caption content
+is_common_element an.Table attributes content = true
+is_common_element an.Row attributes content = true
+is_common_element an.Cell attributes content = takes_one_row attributes && are_lean content
+is_common_element an.HeaderCell attributes content = takes_one_row attributes && are_lean content
+is_common_element name attributes content = false
 
 abbrev mutual
   pub is_common_block : Block → Bool
-  is_common_block (paragraph content) = are_common_inlines (behind_box content)
   -- there a link that is a sign alone stands for its own place
-  is_common_block (heading level content) = are_common_inlines content && are_away content
-  is_common_block (code_block language s) = true
+  is_common_block (heading level content) = are_away content
   is_common_block (quote content) = are_common_blocks content
-  is_common_block thematic_break = true
-  -- so far no element stands in a list
-  is_common_block (list start is_tight items) = are_common_items items && items_have_no_elements items
-  is_common_block (table alignments header rows) =
-      list_all are_common_inlines header && list_all (list_all are_common_inlines) rows
+  is_common_block (list start is_tight items) = are_common_items items
   is_common_block (element name attributes content) =
-      is_settled_element name attributes content && are_common_blocks content
-  is_common_block b = false
+      is_common_element name attributes content && are_common_blocks content
+  is_common_block b = true
 
   pub are_common_blocks : Blocks → Bool
   are_common_blocks no_blocks = true
@@ -46,10 +47,27 @@ abbrev mutual
   are_common_items no_items = true
   are_common_items (item bs rest) = are_common_blocks bs && are_common_items rest
 
--- elements, if there are some, are where HTML has them, and in each other only as deep as a tree goes
-abbrev pub may_stand : Blocks → Bool
-may_stand d = blocks_have_no_elements d || elements_fit d
+abbrev pub any_line : Inlines → Bool
+any_line xs = true
 
--- Past a budget, which grows with what a page says, its links are their content.
-abbrev pub is_common : Blocks → Bool
-is_common d = are_common_blocks d && may_stand d && is_light d
+-- its anchors stand where they come back, and by Linked a link leads to each; by None it has none
+abbrev pub has_common_anchors : Anchors → Blocks → Bool
+has_common_anchors which.None d = true
+has_common_anchors which.Linked d = are_placed any_line true d && are_led_to [] (lines_in d)
+has_common_anchors which.All d = are_placed any_line true d
+
+-- by which choice of anchors its page has them again: by that of its page, by All, or by another that keeps them
+abbrev pub keeps_by : (own again : Anchors) → Blocks → Bool
+keeps_by which.None again d = true
+keeps_by own which.None d = blocks_have_no_anchors d
+keeps_by which.All which.Linked d = are_led_to [] (lines_in d)
+keeps_by own again d = true
+
+-- elements, quotes and lists are in each other only as deep as a tree goes, as quotes and lists alone always are
+abbrev pub may_stand : Blocks → Bool
+may_stand d = nat_le (trees_depth d) 998
+
+-- Past a budget, which grows with what a page says and with each pair of address and title once, its links are their
+-- content.
+abbrev pub is_common : Anchors → Blocks → Bool
+is_common which d = are_common_blocks d && has_common_anchors which d && may_stand d && is_light d

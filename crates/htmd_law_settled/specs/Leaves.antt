@@ -6,10 +6,11 @@ use Rattle.htmd_document.specs.Formats.{Format}
 use Rattle.htmd_document.specs.Documents.{Inline, text, code, formatted, link, image, anchor, line_break, task}
 use Rattle.htmd_document.specs.Documents.{Inlines, no_inlines, inline, Block, paragraph, heading, code_block, quote}
 use Rattle.htmd_document.specs.Documents.{thematic_break, list, table, element, tags, Blocks, no_blocks, block}
-use Rattle.htmd_document.specs.Documents.{Items, no_items, item}
+use Rattle.htmd_document.specs.Documents.{Items, no_items, item, BlockAttribute}
+use Rattle.htmd_document.specs.declared.document.BlockElement.{BlockElement}
 
 -- the characters of texts and codes in lines, formats, addresses with titles, images, code blocks, and whole lines,
--- whether lists are tight, the header and rows of tables, and whether there are elements
+-- whether lists are tight, the header and rows of tables, and elements with their attributes and content
 pub record Leaves : Type 0 where
   pub character : ℕ → Bool
   pub format : Format → Bool
@@ -19,7 +20,7 @@ pub record Leaves : Type 0 where
   pub line : Inlines → Bool
   pub list : Bool → Items → Bool
   pub table : List Inlines → List (List Inlines) → Bool
-  pub elements : Bool
+  pub element : BlockElement → List BlockAttribute → Blocks → Bool
 
 module _ (k : Leaves) where
   abbrev pub is_text_of : List ℕ → Bool
@@ -57,7 +58,7 @@ module _ (k : Leaves) where
     is_block_of (list start is_tight items) = k.list is_tight items && are_items_of items
     is_block_of (table alignments header rows) =
         k.table header rows && (are_cells_of header && list_all are_cells_of rows)
-    is_block_of (element name attributes content) = k.elements && are_blocks_of content
+    is_block_of (element name attributes content) = k.element name attributes content && are_blocks_of content
     is_block_of (tags s) = true
 
     -- all leaves of these blocks are so

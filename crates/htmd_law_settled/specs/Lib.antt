@@ -2,6 +2,7 @@
 pub mod Leaves
 pub mod BareBreaks
 pub mod NeatLeaves
+pub mod StandingElements
 pub mod CommonDocuments
 pub mod PageLaws
 pub mod Rounds

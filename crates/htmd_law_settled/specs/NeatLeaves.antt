@@ -1,21 +1,28 @@
 -- The leaves of a document that a page has.
-use Rattle.std.specs.Prelude.{◌≡◌, ℕ, Bool, true, false, not, ◌&&◌, ◌||◌, List, Option}
+use Rattle.std.specs.Prelude.{◌≡◌, ℕ, Bool, true, false, not, ◌&&◌, ◌||◌, List, [], Option, None}
 use Rattle.htmd_nodes.specs.NumberedTrees.{NumberedTree}
 use Rattle.htmd_lexical.specs.Characters.{space}
 use Rattle.htmd_lexical.specs.CharacterClasses.{first_is}
-use Rattle.htmd_document.specs.Documents.{text, task, Inlines, inline, Items}
+use Rattle.htmd_document.specs.Documents.{text, task, Inlines, inline, BlockAttribute, element, Blocks, no_blocks}
+use Rattle.htmd_document.specs.Documents.{block}
+use Rattle.htmd_document.specs.declared.document.BlockElement.{BlockElement}
+use Rattle.htmd_document.specs.declared.document.BlockElement.TheVariants as an
 use Rattle.htmd_shown.specs.Shown.{Sight}
 use Rattle.htmd_shown.specs.ShownTexts.{is_shown}
 use Rattle.htmd_document_of_tree.specs.declared.anchors.Anchors.{Anchors}
 use Rattle.htmd_document_of_tree.specs.TreeDocuments.{document_of_tree}
 use Rattle.htmd_law_documents.specs.TreeForms.{is_text_tree}
-use Rattle.htmd_law_rendering.specs.PlainReadings.{blocks_have_no_elements, items_have_no_elements}
+use Rattle.htmd_law_rendering.specs.PlainReadings.{blocks_have_no_elements}
+use Rattle.htmd_law_returning.specs.LastingAnchors.{all_keep}
 use Rattle.htmd_law_returning.specs.PageFormats.{format_shows}
 use Rattle.htmd_law_returning.specs.EncodedDocuments.{encoded}
 use Rattle.htmd_law_returning.specs.SettledDocuments.{is_settled_address}
 use Rattle.htmd_law_returning.specs.SettledDocuments.{is_one_line, is_settled_title, has_settled_language}
-use Rattle.htmd_law_returning.specs.SettledDocuments.{is_settled_code, behind_box}
-use Rattle.htmd_law_returning.specs.SettledDocuments.{is_right_list, shows_last_column, numbers_fit}
+use Rattle.htmd_law_returning.specs.SettledDocuments.{is_settled_code, behind_box, is_open_at_most, has_filled_element}
+use Rattle.htmd_law_returning.specs.SettledDocuments.{has_caption}
+use Rattle.htmd_law_returning.specs.SettledDocuments.{is_right_list, shows_last_column, numbers_fit, have_bare_headers}
+use Rattle.htmd_law_returning.specs.SettledTables.{is_border_at_most, takes_one_row, are_of_cell, rows_in}
+use Rattle.htmd_law_returning.specs.SettledTables.{are_rows_of_element}
 use Rattle.htmd_law_settled.specs.BareBreaks.{has_bare_breaks}
 use Rattle.htmd_law_settled.specs.Leaves.{Leaves, are_blocks_of}
 use Rattle.htmd_law_returning.specs.WholeLines.{is_whole}
@@ -30,17 +37,55 @@ is_box_spaced (inline (task is_checked) (inline (text s) xs)) = first_is space s
 is_box_spaced (inline (task is_checked) xs) = false
 is_box_spaced xs = true
 
+abbrev pub any_id : List ℕ → Bool
+any_id id = true
+
 -- with or without a box
 abbrev pub is_neat_line : Inlines → Bool
-is_neat_line xs = is_box_spaced xs && is_whole (behind_box xs) && has_bare_breaks (behind_box xs)
+is_neat_line xs =
+    is_box_spaced xs && is_whole (behind_box xs) && has_bare_breaks (behind_box xs) && all_keep any_id xs
 
--- so far of lists without elements
-abbrev pub is_neat_list : Bool → Items → Bool
-is_neat_list is_tight items = not (items_have_no_elements items) || is_right_list is_tight items
+-- what one that takes one row says of itself is read as it is
+abbrev pub is_neat_cell : List BlockAttribute → Bool
+is_neat_cell attributes = not (takes_one_row attributes) || are_of_cell attributes
+
+-- a `details` is open at most, a table's border is 1, and of others cells alone have attributes
+abbrev pub has_neat_attributes : BlockElement → List BlockAttribute → Bool
+has_neat_attributes name [] = true
+has_neat_attributes an.Details attributes = is_open_at_most attributes
+has_neat_attributes an.Table attributes = is_border_at_most attributes
+has_neat_attributes an.Cell attributes = is_neat_cell attributes
+has_neat_attributes an.HeaderCell attributes = is_neat_cell attributes
+has_neat_attributes name attributes = false
+
+-- cells that take one row each, and rows alone of these
+abbrev pub are_single_cells : Blocks → Bool
+are_single_cells no_blocks = true
+are_single_cells (block (element name attributes content) bs) = takes_one_row attributes && are_single_cells bs
+are_single_cells (block b bs) = false
+
+abbrev pub are_single_rows : Blocks → Bool
+are_single_rows no_blocks = true
+are_single_rows (block (element an.Row attributes cells) bs) = are_single_cells cells && are_single_rows bs
+are_single_rows (block b bs) = false
+
+-- if it is of such rows alone, something stands in each, it isn't for layout, and not of GitHub's form
+abbrev pub is_neat_table : List BlockAttribute → Blocks → Bool
+is_neat_table attributes content =
+    not (are_single_rows content) || are_rows_of_element attributes (rows_in None content)
+
+-- and something stands in a list of terms, and a caption in a figure
+abbrev pub is_neat_element : BlockElement → List BlockAttribute → Blocks → Bool
+is_neat_element an.Terms attributes content = has_neat_attributes an.Terms attributes && has_filled_element content
+is_neat_element an.Figure attributes content = has_neat_attributes an.Figure attributes && has_caption content
+is_neat_element an.Table attributes content =
+    has_neat_attributes an.Table attributes && is_neat_table attributes content
+is_neat_element name attributes content = has_neat_attributes name attributes
 
 -- All characters of texts and codes show, HTML encodes no byte of an address, titles and descriptions are one line,
--- languages have names, lines are whole and have no white space beside breaks, the box of a task and its space apart,
--- loose lists show that they are, the last columns of tables show, and formats show on a rich page.
+-- languages have names, lines are whole and have no white space beside breaks and behind anchors, the box of a task and
+-- its space apart, no format goes on behind white space, breaks and anchors, lists show whether they are loose, the
+-- last columns of tables show, formats show on a rich page, and elements have such attributes and content.
 abbrev pub neat : Leaves
 neat = record {
   character = is_shown;
@@ -49,9 +94,9 @@ neat = record {
   image = λ address title description. is_settled_address address && is_settled_title title && is_one_line description;
   code = is_neat_code;
   line = is_neat_line;
-  list = is_neat_list;
+  list = is_right_list;
   table = shows_last_column;
-  elements = true;
+  element = is_neat_element;
 }
 
 -- So are the leaves of the document of every tree of texts, rich or not, with whatever anchors, once its addresses are
@@ -65,7 +110,12 @@ abbrev pub NoBlockIsElement : Type 0
 NoBlockIsElement = (which : Anchors) (sight : Sight) (tree : NumberedTree) → sight.is_rich ≡ false
     → is_text_tree tree ≡ true → blocks_have_no_elements (document_of_tree which sight tree) ≡ true
 
--- And the numbers of its lists fit.
+-- The numbers of its lists fit.
 abbrev pub NumbersFit : Type 0
 NumbersFit = (which : Anchors) (sight : Sight) (tree : NumberedTree)
     → is_text_tree tree ≡ true → numbers_fit 0 (document_of_tree which sight tree) ≡ true
+
+-- And something shows in the header of each table of a rich one.
+abbrev pub HeadersShow : Type 0
+HeadersShow = (which : Anchors) (sight : Sight) (tree : NumberedTree) → sight.is_rich ≡ true
+    → is_text_tree tree ≡ true → have_bare_headers (document_of_tree which sight tree) ≡ false

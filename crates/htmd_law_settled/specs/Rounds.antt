@@ -1,5 +1,5 @@
 -- Documents of pages, as calls give them.
-use Rattle.std.specs.Prelude.{ℕ, Bool, false, List}
+use Rattle.std.specs.Prelude.{ℕ, Bool, List}
 use Rattle.htmd_nodes.specs.NumberedTrees.{NumberedTree, tree_of}
 use Rattle.htmd_html5.specs.Html5Documents.{html5_document}
 use Rattle.htmd_document.specs.Documents.{Blocks}
@@ -11,6 +11,7 @@ use Rattle.htmd_law_returning.specs.ReturningLaws.{whole_sight}
 abbrev pub page_tree : Bool → List ℕ → NumberedTree
 page_tree scripting html = tree_of (html5_document scripting html) 0
 
--- what a reader sees of it
-abbrev pub page_document : Anchors → Bool → List ℕ → Blocks
-page_document anchors scripting html = document_of_tree anchors (whole_sight scripting false) (page_tree scripting html)
+-- the document of it, rich or not, with nothing skipped
+abbrev pub page_document : Anchors → Bool → Bool → List ℕ → Blocks
+page_document anchors scripting is_rich html =
+    document_of_tree anchors (whole_sight scripting is_rich) (page_tree scripting html)

@@ -1,6 +1,13 @@
 //! Documents of pages come back.
-ghost use Rattle.htmd_law_settled.specs.PageLaws.{DocumentsAreSettled, PagesComeBack};
+ghost use Rattle.htmd_law_settled.specs.PageLaws.{DocumentsAreSettled, PagesAreParsed, PagesComeBack};
 ghost use Rattle.htmd_law_settled.specs.PageLaws.{ConversionIsStable, AddressesStay, ComesBackAgain, FilesAreStable};
+
+/// The reader of any page reads the HTML of a page's Markdown as exactly the trees that it is spelled of, whatever the
+/// page holds, if the Markdown fits a text of the machine; of a rich one, if elements, quotes and lists are in each
+/// other in 998 levels at most, of which a list and a table that is an element are two.
+pub fn pages_are_parsed()
+    ensures { PagesAreParsed }
+{}
 
 /// A document of a page that is common with its addresses encoded is then settled.
 pub fn documents_are_settled()
@@ -28,7 +35,8 @@ pub fn all_comes_back_again()
     ensures { ComesBackAgain }
 {}
 
-/// And so is the file, which ends in a line feed, of the page in the HTML of that file.
+/// The file, which ends in a line feed, of the page in the HTML of a file is that of the document with its addresses
+/// encoded, if it is common with these.
 pub fn files_are_stable()
     ensures { FilesAreStable }
 {}

@@ -27,41 +27,44 @@ fn document_of_page(
     page: &str,
     scripting: bool,
     anchors: Anchors,
+    is_rich: bool,
 ) -> Result<Document, AllocError>
-    ensures ok { IfOk result (λ d. document_of d ≡ page_document anchors scripting page.now) }
+    ensures ok { IfOk result (λ d. document_of d ≡ page_document anchors scripting is_rich page.now) }
     ensures texts { IfOk result (λ d. is_text_tree (page_tree scripting page.now) ≡ true) }
 {
     let tree = parse_html5(alloc, page, scripting)?;
     // The tree's texts are UTF-8.
     let _root = tree.root();
-    Document::of_tree(alloc, &tree, scripting, &[], anchors, false)
+    Document::of_tree(alloc, &tree, scripting, &[], anchors, is_rich)
 }
 
 /// The Markdown of any page, as browsers read it, and the Markdown of the HTML of that: if the page's document is
-/// common with its addresses encoded, this is its Markdown, and so the same bytes where all are. `Err` means out of
-/// memory.
+/// common with its addresses encoded, the second is the Markdown of it with these, and so the same bytes as the first
+/// if HTML encodes none of them. `Err` means out of memory.
 pub fn markdown_twice(
     alloc: Global,
     page: &str,
     options: &DocumentOptions,
     scripting: bool,
     anchors: Anchors,
+    is_rich: bool,
 ) -> Result<Round, AllocError>
     ensures first { IfOk result (λ round. string_bytes round.markdown
-        ≡ markdown_of options.now (page_document anchors scripting page.now)) }
-    ensures again { is_common (encoded (page_document anchors scripting page.now)) ≡ true
+        ≡ markdown_of options.now (page_document anchors scripting is_rich page.now)) }
+    ensures again { is_common anchors (encoded (page_document anchors scripting is_rich page.now)) ≡ true
         → IfOk result (λ round. string_bytes round.again
-        ≡ markdown_of options.now (encoded (page_document anchors scripting page.now))) }
-    ensures same { is_common (page_document anchors scripting page.now) ≡ true
-        → encoded (page_document anchors scripting page.now) ≡ page_document anchors scripting page.now
+        ≡ markdown_of options.now (encoded (page_document anchors scripting is_rich page.now))) }
+    ensures same { is_common anchors (page_document anchors scripting is_rich page.now) ≡ true
+        → encoded (page_document anchors scripting is_rich page.now)
+        ≡ page_document anchors scripting is_rich page.now
         → IfOk result (λ round. string_bytes round.again ≡ string_bytes round.markdown) }
 {
-    let document = document_of_page(alloc, page, scripting, anchors)?;
+    let document = document_of_page(alloc, page, scripting, anchors, is_rich)?;
     let markdown = to_markdown(alloc, &document, options)?;
     // It fits a text, so few links in it are defined below.
     let _size = markdown.len();
     let html = markdown_to_html(alloc, markdown.as_str())?;
-    let document = document_of_page(alloc, html.as_str(), scripting, anchors)?;
+    let document = document_of_page(alloc, html.as_str(), scripting, anchors, is_rich)?;
     let again = to_markdown(alloc, &document, options)?;
     Ok(Round { markdown, again })
 }

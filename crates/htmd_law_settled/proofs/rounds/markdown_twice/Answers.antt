@@ -18,15 +18,16 @@ returns-clause-again c common =
     let markdown = string_bytes c.in_ok-markdown.markdown in
     let fits : length markdown < 2 ^ 64 = search rules in
     again (page.come-back (come-back (documents-parsed pages_agree texts_agree))) c.args.anchors c.args.scripting
-    c.args.options.now c.args.page.now markdown (string_bytes c.in_ok-html.html) _
+    c.args.is_rich c.args.options.now c.args.page.now markdown (string_bytes c.in_ok-html.html) _
     (document_of c.in_ok-document.document) (document_of c.in_ok-document-2.document) c.in_ok-document.ensures.texts
     common fits c.in_ok-document.ensures.ok c.in_ok-markdown.ensures.ok
     (c.in_ok-html.ensures ∙ ap (λ s. html_of (read s)) c.as_str.ensures.value)
-    (c.in_ok-document-2.ensures.ok ∙ ap (page_document c.args.anchors c.args.scripting) c.as_str-2.ensures.value)
+    (c.in_ok-document-2.ensures.ok
+    ∙ ap (page_document c.args.anchors c.args.scripting c.args.is_rich) c.as_str-2.ensures.value)
     c.in_ok-again.ensures.ok
 
 pub returns-clause-same : goal.returns-clause-same
 returns-clause-same c common stay =
-    returns-clause-again c (subst (λ d. is_common d ≡ true) (sym stay) common)
+    returns-clause-again c (subst (λ d. is_common c.args.anchors d ≡ true) (sym stay) common)
     ∙ (ap (markdown_of c.args.options.now) (stay ∙ sym c.in_ok-document.ensures.ok)
     ∙ sym c.in_ok-markdown.ensures.ok)
