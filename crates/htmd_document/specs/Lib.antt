@@ -12,3 +12,4 @@ pub mod Mdast
 pub mod NormalInlines
 pub mod NormalDocuments
 pub mod AnchorIds
+pub mod LoneAnchors

@@ -67,7 +67,7 @@ in-order which rich ts u b =
     let read : marks_of_blocks (document_of rich all) ≡ ms =
     sym (blocks-marks (document_of rich all))
     ∙ document-keeps marks no-link rich all
-    (stand-fit true all sound (pieced-stand true us (anchored-stand which rich ts b))) (no-addresses all) in
+    (stand-fit marks true all sound (pieced-stand true us (anchored-stand which rich ts b))) (no-addresses all) in
     let have : MarkAll false false us ms =
     pieced-marks us false false ms (trees-read all sound (bare_in rich) false) in
     let p : Placing = record { seen = 0; targets = targets_by which rich ts } in

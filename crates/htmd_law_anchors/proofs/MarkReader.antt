@@ -26,6 +26,7 @@ marks = record {
   as_link = λ address. tt;
   read = λ wrappers is_code s. letters s;
   mark = λ id. place id ∷ [];
+  picture = [];
   nothing = λ wrappers is_code. ap (map letter) shows-nil.is;
   joins = λ wrappers is_code s t u v. letters-append s t u;
   same = λ wrappers is_code s t u v e. ap (map letter) e;

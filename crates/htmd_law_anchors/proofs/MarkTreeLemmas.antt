@@ -1,7 +1,7 @@
 -- What is seen of the simpler tree, in order, whichever of its tables are of rows and columns.
 use Rattle.std.proofs.Common.{◌≡◌, ℕ, Bool, true, false, cond, not, ◌&&◌, List, [], ◌∷◌, ◌++◌, map, refl, sym, ap, ◌∙◌}
 use Rattle.std.proofs.Common.{subst}
-use Rattle.std.specs.Prelude.{codes}
+use Rattle.std.specs.Prelude.{codes, Some, None}
 use Rattle.std.specs.List.{flat_map}
 use Rattle.std.specs.Str.{IsUtf8}
 use Rattle.std.proofs.lemmas.Str.{IsUtf8-append}
@@ -121,7 +121,8 @@ module _ (id : ℕ) (facts : Facts) (attributes : List AttributePair) (content :
 mutual
   tree-read : (t : Simple) → IsSound t → (c : Context) (g : Bool) → Marks c.is_flat g t (read_tree marks t c g)
   tree-read (text s) u c g = refl
-  tree-read (image address attributes) u c g = refl
+  tree-read (image None attributes) u c g = refl
+  tree-read (image (Some address) attributes) u c g = refl
   tree-read (formula tex is_alone attributes) u c g = formula-read tex u is_alone c
   tree-read (embedded id address title attributes anchors) u c g =
       ap (λ xs. xs ++ letters title) (places-read anchors)

@@ -20,8 +20,7 @@ use Rattle.htmd_shown.specs.Showings.{image_shows, code_shows, shows, show}
 use Rattle.htmd_document_of_tree.specs.Targets.{Target}
 use Rattle.htmd_law_documents.specs.SimpleForms.{IsSound, AreSound}
 use Rattle.htmd_law_documents.proofs.ElementLemmas.{false-true, true-false}
-use Rattle.htmd_law_documents.proofs.Readers.{is_of_table, is_for_anchors, holds_anchors, IsFit, AreFit}
-use Rattle.htmd_law_anchors.proofs.MarkReader.{marks}
+use Rattle.htmd_law_documents.proofs.Readers.{Reader, is_of_table, is_for_anchors, holds_anchors, IsFit, AreFit}
 use Rattle.htmd_law_anchors.proofs.PlacedLemmas.{IsBare, AreBare}
 use Rattle.htmd_law_anchors.proofs.ShowKeptLemmas.{inner-shows, link-shows}
 use Rattle.htmd_law_anchors.proofs.TruthLemmas.{or-none, or-right}
@@ -40,19 +39,20 @@ abbrev mutual
   StandAll here none = Unit {0}
   StandAll here (more t ts) = StandsWell here t × StandAll here ts
 
-mutual
-  stands-fit : (here : Bool) (t : Simple) → IsSound t → StandsWell here t → IsFit marks here t
-  stands-fit here (text s) u h = u
-  stands-fit here (image address attributes) u h = u
-  stands-fit here (formula tex is_alone attributes) u h = u
-  stands-fit here (embedded id address title attributes ids) u h = u
-  stands-fit here (anchor id) u h = λ e. true-false (sym h ∙ e)
-  stands-fit here (element id r facts attributes content) u h =
-      (u.0, stand-fit (holds_anchors here r facts content) content u.1 h)
+module _ (R : Reader) where
+  mutual
+    pub stands-fit : (here : Bool) (t : Simple) → IsSound t → StandsWell here t → IsFit R here t
+    stands-fit here (text s) u h = u
+    stands-fit here (image address attributes) u h = u
+    stands-fit here (formula tex is_alone attributes) u h = u
+    stands-fit here (embedded id address title attributes ids) u h = u
+    stands-fit here (anchor id) u h = λ e. true-false (sym h ∙ e)
+    stands-fit here (element id r facts attributes content) u h =
+        (u.0, stand-fit (holds_anchors here r facts content) content u.1 h)
 
-  pub stand-fit : (here : Bool) (ts : Simples) → AreSound ts → StandAll here ts → AreFit marks here ts
-  stand-fit here none u h = tt
-  stand-fit here (more t ts) u h = (stands-fit here t u.0 h.0, stand-fit here ts u.1 h.1)
+    pub stand-fit : (here : Bool) (ts : Simples) → AreSound ts → StandAll here ts → AreFit R here ts
+    stand-fit here none u h = tt
+    stand-fit here (more t ts) u h = (stands-fit here t u.0 h.0, stand-fit here ts u.1 h.1)
 
 -- ---- without anchors
 
@@ -146,7 +146,7 @@ mutual
           leaf-stands here p (code_shows content) t b (λ s. ap (λ v. cond v (code_shows content) other) e ∙ s)
       either false e h = h
 
-  placed-stand : (here : Bool) (p : Placing) (ts : Simples) → AreBare ts → StandAll here (all_placed p ts)
+  pub placed-stand : (here : Bool) (p : Placing) (ts : Simples) → AreBare ts → StandAll here (all_placed p ts)
   placed-stand here p none b = tt
   placed-stand here p (more t ts) b =
       (placed-stands here p t b.0, placed-stand here (placing_after p t) ts b.1)

@@ -30,7 +30,7 @@ abbrev pub Climbs : ℕ → ℕ → List Target → Type 0
 Climbs m n [] = m ≤ n
 Climbs m n (t ∷ ts) = (m ≤ t.seen) × Climbs t.seen n ts
 
-le-trans : (l m n : ℕ) → l ≤ m → m ≤ n → l ≤ n
+pub le-trans : (l m n : ℕ) → l ≤ m → m ≤ n → l ≤ n
 le-trans l m n g h = omega arith
 
 pub climbs-from : (l m n : ℕ) (ts : List Target) → l ≤ m → Climbs m n ts → Climbs l n ts
@@ -45,7 +45,7 @@ climbs-append : (l m n : ℕ) (xs ys : List Target) → Climbs l m xs → Climbs
 climbs-append l m n [] ys g h = climbs-from l m n ys g h
 climbs-append l m n (t ∷ xs) ys g h = (g.0, climbs-append t.seen m n xs ys g.1 h)
 
-le-itself : (n : ℕ) → n ≤ n
+pub le-itself : (n : ℕ) → n ≤ n
 le-itself n = omega arith
 
 one-climbs : (b : Bool) (n : ℕ) (is_name : Bool) (s : List ℕ)
@@ -66,7 +66,7 @@ module _ (counts : List ℕ → Bool) where
       either true = by-climbs n true (text_of (codes "name") attributes)
       either false = le-itself n
 
-  own-climbs : (n : ℕ) (t : Simple) → Climbs n n (own_targets counts n t)
+  pub own-climbs : (n : ℕ) (t : Simple) → Climbs n n (own_targets counts n t)
   own-climbs n (text s) = le-itself n
   own-climbs n (image address attributes) = by-climbs n false (text_of (codes "id") attributes)
   own-climbs n (formula tex is_alone attributes) = by-climbs n false (text_of (codes "id") attributes)
@@ -100,7 +100,7 @@ module _ (counts : List ℕ → Bool) where
   assoc (Some m) n k l = le-itself m
 
   mutual
-    inside-climbs : (t : Simple) (whole : Option ℕ) (n : ℕ)
+    pub inside-climbs : (t : Simple) (whole : Option ℕ) (n : ℕ)
         → Climbs (unwrap_or whole n) (unwrap_or whole (n + seen t)) (targets_inside counts whole n t)
     inside-climbs (text s) whole n = later whole n (seen (text s))
     inside-climbs (image address attributes) whole n = later whole n (seen (image address attributes))
@@ -126,7 +126,7 @@ module _ (counts : List ℕ → Bool) where
             (targets_among counts whole n content)
             (as-many whole n (all_seen content) s (no-verbatim r facts id attributes content e)) (h whole)
 
-    among-climbs : (ts : Simples) (whole : Option ℕ) (n : ℕ)
+    pub among-climbs : (ts : Simples) (whole : Option ℕ) (n : ℕ)
         → Climbs (unwrap_or whole n) (unwrap_or whole (n + all_seen ts)) (targets_among counts whole n ts)
     among-climbs none whole n = later whole n 0
     among-climbs (more t ts) whole n =

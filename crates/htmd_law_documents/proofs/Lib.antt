@@ -13,6 +13,7 @@ pub mod NormalPutLemmas
 pub mod NormalCharacterLemmas
 pub mod NormalBlockLemmas
 pub mod NormalWritingLemmas
+pub mod NormalLoneLemmas
 pub mod NormalPartsLemmas
 pub mod NormalListLemmas
 pub mod NormalGridLemmas

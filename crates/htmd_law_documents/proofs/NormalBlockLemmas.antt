@@ -1,7 +1,7 @@
 -- Blocks that are normal, as facts.
 use Rattle.std.proofs.Common.{◌≡◌, ℕ, ◌≤◌, Bool, true, false, cond, List, [], ◌∷◌, ◌++◌, refl, sym, ap, ◌∙◌, ◌||◌}
 use Rattle.std.proofs.Common.{arith, subst, ◌⊎◌, inl, inr, max}
-use Rattle.std.specs.Prelude.{nat_le}
+use Rattle.std.specs.Prelude.{nat_le, not, ◌&&◌}
 use Rattle.std.proofs.lemmas.Bool.Decides.{nat_tests}
 use Rattle.htmd_document.specs.DocumentLimits.{most_nested}
 use Rattle.htmd_document.specs.Documents.{Inlines, no_inlines, inline, text, code, image, line_break, task, link}
@@ -11,6 +11,8 @@ use Rattle.htmd_document.specs.Documents.{element, tags}
 use Rattle.htmd_document.specs.FlatDocuments.{flat_items}
 use Rattle.htmd_document.specs.Documents.{Blocks, no_blocks, block, Items, no_items, item, blocks_of}
 use Rattle.htmd_document.specs.Documents as value
+use Rattle.htmd_document.specs.LoneAnchors.{is_alone, stand_alone, stand_inside, all_stand}
+use Rattle.htmd_document.specs.LoneAnchors.{items_stand_well}
 use Rattle.htmd_document.specs.TightItems.{is_filled}
 use Rattle.htmd_document.specs.NormalInlines.{begins_with_space, has_none, first_passes}
 use Rattle.htmd_document.specs.NormalInlines.{are_whole, are_normal, is_normal_line}
@@ -49,15 +51,22 @@ IsLineParagraph content =
 abbrev pub IsParagraph : Bool → Inlines → Type 0
 IsParagraph in_item content = IsLineParagraph content ⊎ ((in_item ≡ true) × IsTaskLine content)
 
+-- paragraphs of anchors alone stand well among these blocks, whatever is in them
+abbrev pub these_stand : Bool → Blocks → Bool
+these_stand is_end no_blocks = true
+these_stand is_end (block b bs) = (not (is_alone b) || stand_alone is_end bs) && these_stand is_end bs
+
 abbrev mutual
   pub Nearly : Bool → Block → Type 0
   Nearly in_item (paragraph content) = IsParagraph in_item content
   Nearly in_item (heading level content) = is_normal_heading level content ≡ true
   Nearly in_item (code_block language s) = is_normal_code language s ≡ true
-  Nearly in_item (quote content) = (is_filled content ≡ true) × NearlyAll false content
+  Nearly in_item (quote content) =
+      (is_filled content ≡ true) × NearlyAll false content × (these_stand false content ≡ true)
   Nearly in_item thematic_break = Unit {0}
   Nearly in_item (element name attributes content) =
       (is_normal_element name attributes content ≡ true) × NearlyAll false content
+      × (these_stand false content ≡ true)
   Nearly in_item (tags s) = ⊥
   Nearly in_item (list start is_tight items) = (is_normal_list start is_tight (flat_items items) ≡ true)
       × NearlyItems items
@@ -70,7 +79,7 @@ abbrev mutual
 
   pub NearlyItems : Items → Type 0
   NearlyItems no_items = Unit {0}
-  NearlyItems (item first rest) = NearlyAll true first × NearlyItems rest
+  NearlyItems (item first rest) = NearlyAll true first × NearlyItems rest × (these_stand false first ≡ true)
 
 -- ---- so they are normal
 
@@ -147,6 +156,31 @@ mutual
   items-right no_items h = refl
   items-right (item first rest) h = and-true (all-right first true h.0) (items-right rest h.1)
 
+-- ---- and anchors alone stand right before code blocks
+
+mutual
+  nearly-stand : (b : Block) (in_item : Bool) → Nearly in_item b → stand_inside b ≡ true
+  nearly-stand (paragraph content) in_item h = refl
+  nearly-stand (heading level content) in_item h = refl
+  nearly-stand (code_block language t) in_item h = refl
+  nearly-stand (quote content) in_item h = all-standing content false false h.1 h.2
+  nearly-stand thematic_break in_item h = refl
+  nearly-stand (element name attributes content) in_item h = all-standing content false false h.1 h.2
+  nearly-stand (tags s) in_item h = absurd h
+  nearly-stand (list start is_tight items) in_item h = items-standing items h.1
+  nearly-stand (table alignments header rows) in_item h = refl
+
+  pub all-standing : (bs : Blocks) (in_item is_end : Bool) → NearlyAll in_item bs → these_stand is_end bs ≡ true
+      → all_stand is_end bs ≡ true
+  all-standing no_blocks in_item is_end h s = refl
+  all-standing (block first rest) in_item is_end h s =
+      let p = both-true (not (is_alone first) || stand_alone is_end rest) (these_stand is_end rest) s in
+      and-true (and-true (nearly-stand first in_item h.0) p.0) (all-standing rest false is_end h.1 p.1)
+
+  items-standing : (items : Items) → NearlyItems items → items_stand_well items ≡ true
+  items-standing no_items h = refl
+  items-standing (item first rest) h = and-true (all-standing first true false h.0 h.2) (items-standing rest h.1)
+
 -- ---- blocks in a row
 
 -- a block with at most so many lists and quotes in each other
@@ -186,13 +220,24 @@ fine-first n in_item xs ys e h = subst (λ (zs : List Block). AllFine n in_item 
 pub record FineBlocks (n : ℕ) (in_item : Bool) (bs : Blocks) : Type 0 where
   pub nearly : NearlyAll in_item bs
   pub depth : depth_among bs ≤ n
+  pub stand : these_stand false bs ≡ true
 
-pub blocks-fine : (n : ℕ) (in_item : Bool) (bs : List Block) → AllFine n in_item bs
-    → FineBlocks n in_item (blocks_of bs)
-blocks-fine n in_item [] h = record { nearly = tt; depth = omega arith }
-blocks-fine n in_item (b ∷ bs) h =
-    let rest : FineBlocks n false (blocks_of bs) = blocks-fine n false bs h.1 in
+-- at the end of a document or not
+pub record FineRow (n : ℕ) (in_item : Bool) (bs : Blocks) : Type 0 where
+  pub nearly : NearlyAll in_item bs
+  pub depth : depth_among bs ≤ n
+
+pub row-fine : (n : ℕ) (in_item : Bool) (bs : List Block) → AllFine n in_item bs
+    → FineRow n in_item (blocks_of bs)
+row-fine n in_item [] h = record { nearly = tt; depth = omega arith }
+row-fine n in_item (b ∷ bs) h =
+    let rest : FineRow n false (blocks_of bs) = row-fine n false bs h.1 in
     record { nearly = (h.0.0, rest.nearly); depth = most (depth_of b) (depth_among (blocks_of bs)) n h.0.1 rest.depth }
   where
     most : (a c n : ℕ) → a ≤ n → c ≤ n → max a c ≤ n
     most a c n g h = omega arith
+
+pub blocks-fine : (n : ℕ) (in_item : Bool) (bs : List Block) → AllFine n in_item bs
+    → these_stand false (blocks_of bs) ≡ true → FineBlocks n in_item (blocks_of bs)
+blocks-fine n in_item bs h s =
+    let row = row-fine n in_item bs h in record { nearly = row.nearly; depth = row.depth; stand = s }

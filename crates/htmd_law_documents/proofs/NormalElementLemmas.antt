@@ -44,8 +44,9 @@ use Rattle.htmd_law_documents.proofs.NormalTextLemmas.{and-true}
 use Rattle.htmd_law_documents.proofs.NormalStandLemmas.{stand-well}
 use Rattle.htmd_law_documents.proofs.NormalLeafLemmas.{AllIds}
 use Rattle.htmd_law_documents.proofs.NormalBlockLemmas.{IsLineWell, FineBlocks}
-use Rattle.htmd_law_documents.proofs.NormalPartsLemmas.{FineParts, FineFrom, alone, good, waiting, IsRun, fine-from}
-use Rattle.htmd_law_documents.proofs.NormalPartsLemmas.{fine-append, fine-alone, fine-nil, fine-edge, fine-edges}
+use Rattle.htmd_law_documents.proofs.NormalPartsLemmas.{FineParts, FineFrom, alone, lone, good, waiting, IsRun}
+use Rattle.htmd_law_documents.proofs.NormalPartsLemmas.{fine-from, fine-append, fine-alone, fine-lone, fine-nil}
+use Rattle.htmd_law_documents.proofs.NormalPartsLemmas.{fine-edge, fine-edges}
 use Rattle.htmd_law_documents.proofs.NormalPartsLemmas.{fine-run, fine-whole, fine-apart, fine-either, fine-as}
 use Rattle.htmd_law_documents.proofs.NormalPartsLemmas.{shown-run, blocks-of, line-of}
 use Rattle.htmd_law_documents.proofs.NormalValueLemmas.{IsClean, clean-run, address-fine, in_line-line, in_line-clean}
@@ -113,14 +114,17 @@ trimmed-code s h =
     all-take is_code_byte (length start - suffix_len is_ascii_white_space start) start
     (all-drop is_code_byte (prefix_len is_ascii_white_space s) s h)
 
+pub math-code : (tex : List ℕ) → IsClean tex
+    → is_normal_code (Some (codes "math")) (trimmed (with_line_feeds tex)) ≡ true
+math-code tex h = and-true refl (trimmed-code (with_line_feeds tex) (feeds-code tex h))
+
 pub formula-fine : (tex : List ℕ) (is_alone : Bool) → IsClean tex → Gives (formula_parts tex is_alone)
 formula-fine tex is_alone h c f =
     let flat : Bool = c.is_flat in
     let n : ℕ = bound c in
-    let code : is_normal_code (Some (codes "math")) (trimmed (with_line_feeds tex)) ≡ true =
-    and-true refl (trimmed-code (with_line_feeds tex) (feeds-code tex h)) in
     fine-either flat n (is_alone && not c.is_flat) (apart (whole (math_block tex) ∷ [])) (math_in_line tex c)
-    (λ e. fine-apart flat n (whole (math_block tex) ∷ []) (fine-whole flat n (math_block tex) (code, omega arith)))
+    (λ e. fine-apart flat n (whole (math_block tex) ∷ [])
+    (fine-whole flat n (math_block tex) refl (math-code tex h, omega arith)))
     (λ e. fine-append flat n (run_in c (dollar_sign ∷ []) ∷ run_in (in_code c) (in_line tex) ∷ [])
     (run_in c (dollar_sign ∷ []) ∷ [])
     (fine-append flat n (run_in c (dollar_sign ∷ []) ∷ []) (run_in (in_code c) (in_line tex) ∷ [])
@@ -137,10 +141,15 @@ places-wait flat n [] ps a h = h
 places-wait flat n (id ∷ ids) ps a h = (a.0, tt, places-wait flat n ids ps a.1 h)
 
 -- where nothing shows they may stand alone
+places-lone : (n : ℕ) (ids : List (List ℕ)) (ps : List Part) → AllIds ids
+    → FineFrom false n lone ps → FineFrom false n lone (map place ids ++ ps)
+places-lone n [] ps a h = h
+places-lone n (id ∷ ids) ps a h = (a.0, tt, places-lone n ids ps a.1 h)
+
 pub places-alone : (n : ℕ) (ids : List (List ℕ)) (ps : List Part) → AllIds ids
-    → FineFrom false n alone ps → FineFrom false n alone (map place ids ++ ps)
-places-alone n [] ps a h = h
-places-alone n (id ∷ ids) ps a h = (a.0, tt, places-alone n ids ps a.1 h)
+    → FineFrom false n alone ps → FineFrom false n lone ps → FineFrom false n alone (map place ids ++ ps)
+places-alone n [] ps a g h = g
+places-alone n (id ∷ ids) ps a g h = (a.0, tt, places-lone n ids ps a.1 h)
 
 pub places-first : (flat : Bool) (n : ℕ) (ids : List (List ℕ)) (ps : List Part) → AllIds ids
     → FineFrom flat n good ps → FineFrom flat n waiting ps → FineParts flat n (map place ids ++ ps)
@@ -164,7 +173,8 @@ module _ (ids : List (List ℕ)) (a : AllIds ids) (c : Context) (f : FitsIn c) w
         tt,
         tt,
         places-alone n ids rest a
-            (fine-alone n good rest (fine-append false n (p ∷ []) (edge ∷ []) g (fine-edges false n))),
+            (fine-alone n rest (fine-append false n (p ∷ []) (edge ∷ []) g (fine-edges false n)))
+            (fine-lone n rest (fine-from false n waiting (p ∷ []) (edge ∷ []) h (fine-edges false n))),
       )
 
 pub embed-fine : (id : ℕ) (s title : List ℕ) (ids : List (List ℕ)) → is_attribute s ≡ true → IsClean title
@@ -190,7 +200,7 @@ heading-fine : (flat : Bool) (n level : ℕ) (xs : Inlines) → is_level level �
     → FineParts flat n (heading_of level xs)
 heading-fine flat n level no_inlines e h = fine-nil flat n
 heading-fine flat n level (inline x xs) e h =
-    fine-whole flat n (heading level (inline x xs))
+    fine-whole flat n (heading level (inline x xs)) refl
     (and-true (and-true (and-true e refl) h.0) (stand-well (inline x xs) h.1), omega arith)
 
 around-fits : (facts : Facts) (c : Context) → FitsIn c → FitsIn (in_one_line (around_heading facts c))
@@ -214,8 +224,8 @@ heading-parts-fine level facts nodes e h c f =
 quote-fine : (n : ℕ) (bs : Blocks) → FineBlocks n false bs → FineParts false (suc n) (quote_of bs)
 quote-fine n no_blocks h = tt
 quote-fine n (block b bs) h =
-    fine-whole false (suc n) (quote (block b bs))
-    ((refl, h.nearly), more (depth_among (block b bs)) n h.depth)
+    fine-whole false (suc n) (quote (block b bs)) refl
+    ((refl, h.nearly, h.stand), more (depth_among (block b bs)) n h.depth)
   where
     more : (d n : ℕ) → d ≤ n → suc d ≤ suc n
     more d n l = omega arith
@@ -231,6 +241,14 @@ quote-parts-fine nodes h c f =
     (blocks-of (bound d) false (flow_all nodes d)
     (fine-as c.is_flat false (bound d) (flow_all nodes d) (not-flat c e) (flow-fine nodes h d f))))))
 
+pub verbatim-code : (attributes : List AttributePair) (content : Simples) (near : List (List AttributePair))
+    → IsClean (all_text_among content)
+    → is_normal_code (language_of_block attributes (list_of content) near)
+    (without_last_line_feed (with_line_feeds (all_text_among content))) ≡ true
+verbatim-code attributes content near h =
+    and-true (language-fine attributes (list_of content) near)
+    (without-code (with_line_feeds (all_text_among content)) (feeds-code (all_text_among content) h))
+
 verbatim-fine : (attributes : List AttributePair) (content : Simples) → IsClean (all_text_among content)
     → Gives (verbatim_parts attributes content)
 verbatim-fine attributes content h c f =
@@ -241,16 +259,14 @@ verbatim-fine attributes content h c f =
     let language : Option (List ℕ) = language_of_block attributes (list_of content) c.near in
     let body : List Part = apart (whole (code_block language t) ∷ []) in
     let lines : List Part = edge ∷ code_parts (lines_of s) c.around in
-    let code : is_normal_code language t ≡ true =
-    and-true (language-fine attributes (list_of content) c.near)
-    (without-code s (feeds-code (all_text_among content) h)) in
+    let code : is_normal_code language t ≡ true = verbatim-code attributes content c.near h in
     fine-either flat n (is_blank_text s) (edge ∷ []) (if c.is_flat then lines else body)
     (λ e. fine-edges flat n)
     (λ e. fine-either flat n c.is_flat lines body
     (λ d. fine-edge flat n (code_parts (lines_of s) c.around)
     (lines-fine flat n s c.around (feeds-clean (all_text_among content) h) f))
     (λ d. fine-apart flat n (whole (code_block language t) ∷ [])
-    (fine-whole flat n (code_block language t) (code, omega arith))))
+    (fine-whole flat n (code_block language t) refl (code, omega arith))))
 
 -- ---- each kind
 
@@ -354,7 +370,7 @@ module _ (id : ℕ) (facts : Facts) (attributes : List AttributePair) (content :
   element-fine role.Verbatim k = verbatim-fine attributes content text c f
   element-fine role.BlockQuote k = quote-parts-fine nodes all c f
   element-fine role.ThematicBreak k =
-      fine-whole c.is_flat (bound c) thematic_break (tt, omega arith)
+      fine-whole c.is_flat (bound c) thematic_break refl (tt, omega arith)
   element-fine role.BulletList k = list-parts-fine None nodes all c f
   element-fine role.NumberedList k = list-parts-fine (Some (start_of attributes)) nodes all c f
   element-fine role.Terms k =

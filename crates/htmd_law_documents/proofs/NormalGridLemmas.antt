@@ -14,6 +14,7 @@ use Rattle.htmd_document.specs.Documents.{Inlines, no_inlines, inline, Block}
 use Rattle.htmd_flow.specs.Grids.{Cell, Row, filled, filled_all, shapes_of, contents_of, is_too_large, grid}
 use Rattle.htmd_flow.specs.Grids.{with_cell, trimmed_row, width, padded, body, aligned, table_in}
 use Rattle.htmd_flow.specs.Grids.{table_of_all, table_of_rows, alignments_of, begins_with_header}
+use Rattle.htmd_document.specs.LoneAnchors.{is_alone}
 use Rattle.htmd_document.specs.NormalInlines.{is_normal_line, anchors_stand_well}
 use Rattle.htmd_document.specs.NormalDocuments.{has_cell, ends_filled, are_normal_cells, is_normal_row}
 use Rattle.htmd_document.specs.NormalDocuments.{is_normal_table}
@@ -298,7 +299,7 @@ table-made n alignments header rows l m h w a r =
 -- a table, if there is one
 abbrev pub FineOption : ℕ → Option Block → Type 0
 FineOption n None = Unit {0}
-FineOption n (Some b) = Fine n false b
+FineOption n (Some b) = Fine n false b × (is_alone b ≡ false)
 
 -- the width is that of the first row, or of a later one
 first-or-later : (n : ℕ) (first : List Inlines) (rest : List (List Inlines)) → IsReached n (first ∷ rest)
@@ -352,7 +353,7 @@ table-all-fine n alignments has_header rows h =
 
     either : (b : Bool) → (b ≡ false → Fine n false made) → FineOption n (cond b None (Some made))
     either true f = tt
-    either false f = f refl
+    either false f = (f refl, refl)
 
 pub table-fine : (n : ℕ) (rows : List Row) → FineRows rows → FineOption n (table_of_rows rows)
 table-fine n [] h = tt

@@ -38,7 +38,7 @@ inner items = items_of (map (λ (i : ListItem). i.blocks) items)
 
 inner-nearly : (n : ℕ) (items : List ListItem) → FineItems n items → NearlyItems (inner items)
 inner-nearly n [] h = tt
-inner-nearly n (i ∷ items) h = (h.0.nearly, inner-nearly n items h.1)
+inner-nearly n (i ∷ items) h = (h.0.nearly, inner-nearly n items h.1, h.0.stand)
 
 inner-depth : (n : ℕ) (items : List ListItem) → FineItems n items → depth_of_items (inner items) ≤ n
 inner-depth n [] h = omega arith
@@ -126,7 +126,7 @@ list-fine : (n : ℕ) (start : Option ℕ) (items : List ListItem) → FineItems
 list-fine n start items h f s =
     let numbers : are_short_numbers start (item_count (flat_items (inner items))) ≡ true =
     ap (are_short_numbers start) (inner-count items) ∙ s in
-    fine-whole false (suc n) (list start (is_tight items) (inner items)) (
+    fine-whole false (suc n) (list start (is_tight items) (inner items)) refl (
       (and-true (and-true (inner-filled items ∙ f) numbers) (distance items f), inner-nearly n items h),
       deeper (depth_of_items (inner items)) n (inner-depth n items h),
     )

@@ -16,17 +16,17 @@ use Rattle.htmd_document_of_tree.specs.Limits.{limited}
 use Rattle.htmd_document_of_tree.specs.Targets.{Target}
 use Rattle.htmd_document_of_tree.specs.TreeDocuments.{document_by, document_of_tree}
 use Rattle.htmd_flow.specs.Contexts.{Context, bare_in}
-use Rattle.htmd_flow.specs.Contexts as contexts
 use Rattle.htmd_flow.specs.Flows.{Node, is_item, goes_on, flow_all, flow_after}
 use Rattle.htmd_flow.specs.Flows.{items_in_a_row, list_parts, node_of, nodes_of}
 use Rattle.htmd_flow.specs.Parts.{Part, edge}
-use Rattle.htmd_law_documents.specs.NormalLaws.{DocumentsAreNormal, TablesHaveRightLength}
+use Rattle.htmd_law_documents.specs.NormalLaws.{DocumentsAreNormal, TablesHaveRightLength, LoneAnchorsStand}
 use Rattle.htmd_law_documents.specs.SimpleForms.{AreSound}
 use Rattle.htmd_law_documents.specs.TreeForms.{is_text_tree}
 use Rattle.htmd_law_documents.proofs.ShownTreeLemmas.{page-sound}
 use Rattle.htmd_law_documents.proofs.SoundLemmas.{limited-sound, all-placed-kept, pieced-sound}
-use Rattle.htmd_law_documents.proofs.NormalBlockLemmas.{FineBlocks, document-normal, all-right}
-use Rattle.htmd_law_documents.proofs.NormalPartsLemmas.{FineParts, good, fine-append, fine-alone, fine-edges, blocks-of}
+use Rattle.htmd_law_documents.proofs.NormalBlockLemmas.{document-normal, all-right, all-standing}
+use Rattle.htmd_law_documents.proofs.NormalPartsLemmas.{FineParts, alone, good, Closes, ClosesFrom}
+use Rattle.htmd_law_documents.proofs.NormalPartsLemmas.{fine-closes, fine-last, FineDocument, document-of}
 use Rattle.htmd_law_documents.proofs.NormalNodesLemmas.{bound, flow-fine}
 use Rattle.htmd_law_documents.proofs.NormalTreeLemmas.{AreIds, ids-alone, AreFine}
 use Rattle.htmd_law_documents.proofs.NormalTreeNodesLemmas.{nodes-fine}
@@ -88,48 +88,46 @@ followed-none none = refl
 followed-none (more t ts) = ap (more t) (followed-none ts)
 
 -- anchors in a paragraph of their own, at the end
-ids-fine : (is_rich : Bool) (inner : Simples) → AreIds inner
-    → FineParts false (bound (bare_in is_rich)) (contexts.apart (flow_all (nodes_of inner) (bare_in is_rich)))
-ids-fine is_rich inner ids = (
-  tt,
-  tt,
-  ids-alone (bound (bare_in is_rich)) (bare_in is_rich) inner ids (edge ∷ [])
-      (fine-alone (bound (bare_in is_rich)) good (edge ∷ []) (fine-edges false (bound (bare_in is_rich)))),
-)
+ids-close : (is_rich : Bool) (inner : Simples) → AreIds inner
+    → ClosesFrom (bound (bare_in is_rich)) alone (flow_all (nodes_of inner) (bare_in is_rich) ++ edge ∷ [])
+ids-close is_rich inner ids =
+    ids-alone (bound (bare_in is_rich)) (bare_in is_rich) Closes inner ids (edge ∷ []) (tt, tt, tt) (tt, tt, tt)
 
 end-fine : (is_rich : Bool) (ts inner : Simples)
     → FineParts false (bound (bare_in is_rich)) (flow_all (nodes_of ts) (bare_in is_rich)) → AreIds inner
-    → FineParts false (bound (bare_in is_rich))
+    → ClosesFrom (bound (bare_in is_rich)) good
     (flow_all (nodes_of (followed_by ts (more (element 0 role.Anchors inserted_facts [] inner) none)))
     (bare_in is_rich))
 unfolding node_of
 end-fine is_rich ts inner f ids =
     let a : Simple = element 0 role.Anchors inserted_facts [] inner in
-    subst (λ (ns : List Node). FineParts false (bound (bare_in is_rich)) (flow_all ns (bare_in is_rich)))
+    subst (λ (ns : List Node). ClosesFrom (bound (bare_in is_rich)) good (flow_all ns (bare_in is_rich)))
     (sym (nodes-followed ts (more a none)))
-    (subst (λ (ps : List Part). FineParts false (bound (bare_in is_rich)) ps)
+    (subst (λ (ps : List Part). ClosesFrom (bound (bare_in is_rich)) good ps)
     (sym (flow-last (node_of a) (bare_in is_rich) refl refl (nodes_of ts)))
-    (fine-append false (bound (bare_in is_rich)) (flow_all (nodes_of ts) (bare_in is_rich))
-    (contexts.apart (flow_all (nodes_of inner) (bare_in is_rich))) f (ids-fine is_rich inner ids)))
+    (fine-last (bound (bare_in is_rich)) good (flow_all (nodes_of ts) (bare_in is_rich))
+    (flow_all (nodes_of inner) (bare_in is_rich) ++ edge ∷ []) f (ids-close is_rich inner ids)))
 
 last-fine : (is_rich : Bool) (ts : Simples) (targets : List Target)
     → FineParts false (bound (bare_in is_rich)) (flow_all (nodes_of (pieced_all ts)) (bare_in is_rich))
     → AllNamed targets
-    → FineParts false (bound (bare_in is_rich))
+    → ClosesFrom (bound (bare_in is_rich)) good
     (flow_all (nodes_of (pieced_all (followed_by ts (last_anchors targets)))) (bare_in is_rich))
 last-fine is_rich ts [] f n =
-    subst (λ (us : Simples). FineParts false (bound (bare_in is_rich))
+    subst (λ (us : Simples). ClosesFrom (bound (bare_in is_rich)) good
     (flow_all (nodes_of (pieced_all us)) (bare_in is_rich)))
-    (sym (followed-none ts)) f
+    (sym (followed-none ts))
+    (fine-closes (bound (bare_in is_rich)) good (flow_all (nodes_of (pieced_all ts)) (bare_in is_rich)) f)
 last-fine is_rich ts (t ∷ targets) f n =
     let ids : Simples = anchors (values_of (t ∷ targets)) in
-    subst (λ (us : Simples). FineParts false (bound (bare_in is_rich)) (flow_all (nodes_of us) (bare_in is_rich)))
+    subst (λ (us : Simples). ClosesFrom (bound (bare_in is_rich)) good
+    (flow_all (nodes_of us) (bare_in is_rich)))
     (sym (pieced-followed ts (more (apart ids) none)))
     (end-fine is_rich (pieced_all ts) (pieced_all ids) f
     (pieced-ids ids (anchors-ids (values_of (t ∷ targets)) (values-ids (t ∷ targets) n))))
 
 document-fine : (which : Anchors) (sight : Sight) (tree : NumberedTree) → is_text_tree tree ≡ true
-    → FineBlocks (bound (bare_in sight.is_rich)) false (document_of_tree which sight tree)
+    → FineDocument (bound (bare_in sight.is_rich)) (document_of_tree which sight tree)
 unfolding document_of_tree document_by
 document-fine which sight tree e =
     let shown : Simples = shown_in sight tree in
@@ -147,15 +145,19 @@ document-fine which sight tree e =
     flow-fine nodes (nodes-fine (pieced_all (all_placed p ts)) fine pieced) (bare_in sight.is_rich) tt in
     let last : List Target = (placing_after_all p ts).targets in
     let all : Simples = pieced_all (followed_by (all_placed p ts) (last_anchors last)) in
-    let whole : FineParts false (bound (bare_in sight.is_rich)) (flow_all (nodes_of all) (bare_in sight.is_rich)) =
-    last-fine sight.is_rich (all_placed p ts) last parts (all-after-named p ts named) in
-    blocks-of (bound (bare_in sight.is_rich)) false (flow_all (nodes_of all) (bare_in sight.is_rich)) whole
+    document-of (bound (bare_in sight.is_rich)) (flow_all (nodes_of all) (bare_in sight.is_rich))
+    (last-fine sight.is_rich (all_placed p ts) last parts (all-after-named p ts named))
 
 pub documents_are_normal : DocumentsAreNormal
 documents_are_normal which sight tree e =
-    let fine = document-fine which sight tree e in
+    let fine = (document-fine which sight tree e).row in
     document-normal (document_of_tree which sight tree) fine.nearly fine.depth
 
 pub tables_have_right_length : TablesHaveRightLength
 tables_have_right_length which sight tree e =
-    all-right (document_of_tree which sight tree) false (document-fine which sight tree e).nearly
+    all-right (document_of_tree which sight tree) false (document-fine which sight tree e).row.nearly
+
+pub lone_anchors_stand : LoneAnchorsStand
+lone_anchors_stand which sight tree e =
+    let fine = document-fine which sight tree e in
+    all-standing (document_of_tree which sight tree) false true fine.row.nearly fine.stands

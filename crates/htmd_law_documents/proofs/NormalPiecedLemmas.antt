@@ -33,17 +33,20 @@ use Rattle.htmd_law_documents.specs.SimpleForms.{IsSound, AreSound}
 use Rattle.htmd_law_documents.proofs.VisibleLemmas.{Shows, shows-itself, both-true}
 use Rattle.htmd_law_documents.proofs.PiecesLemmas.{line_feed-white, AreUtf8, pieces_seen, PiecesShow, pieces-show}
 use Rattle.htmd_law_documents.proofs.CodeLemmas.{feeds-show, trimmed-shows, blank-seen}
-use Rattle.htmd_law_documents.proofs.NormalTextLemmas.{and-false, true-false, false-true, from-not}
+use Rattle.htmd_law_documents.proofs.NormalTextLemmas.{and-true, and-false, not-false, true-false}
+use Rattle.htmd_law_documents.proofs.NormalTextLemmas.{false-true, from-not}
 use Rattle.htmd_law_documents.proofs.NormalLineLemmas.{FitAll}
-use Rattle.htmd_law_documents.proofs.NormalPartsLemmas.{is_text_character, FineFrom, good, waiting, IsRun, fine-from}
+use Rattle.htmd_law_documents.proofs.NormalPartsLemmas.{is_text_character, FineFrom, good, waiting, after}
+use Rattle.htmd_law_documents.proofs.NormalPartsLemmas.{IsRun, fine-from}
 use Rattle.htmd_law_documents.proofs.NormalPartsLemmas.{fine-append, fine-nil, fine-run, shown-run}
-use Rattle.htmd_law_documents.proofs.NormalValueLemmas.{IsClean, IsBlack, text-run, clean-run, seen-trimmed, all-less, AllPieces}
+use Rattle.htmd_law_documents.proofs.NormalValueLemmas.{IsClean, IsBlack, text-run, clean-run, seen-trimmed, all-less}
+use Rattle.htmd_law_documents.proofs.NormalValueLemmas.{AllPieces}
 use Rattle.htmd_law_documents.proofs.NormalValueLemmas.{pieces-pass, AreTexts, value-text, address-fine, title_of-fine}
 use Rattle.htmd_law_documents.proofs.NormalValueLemmas.{in_line-line, in_line-clean}
 use Rattle.htmd_law_documents.proofs.NormalCodeLemmas.{feeds-clean, code-lines}
 use Rattle.htmd_law_documents.proofs.NormalNodesLemmas.{bound, FitsIn, GivesFrom}
 use Rattle.htmd_law_documents.proofs.NormalAroundLemmas.{fit-without, unlinked-gives}
-use Rattle.htmd_law_documents.proofs.NormalElementLemmas.{IsSource, dollar-run}
+use Rattle.htmd_law_documents.proofs.NormalElementLemmas.{IsSource, dollar-run, math-code, verbatim-code}
 use Rattle.htmd_law_documents.proofs.NormalSeenElementLemmas.{all-letters-said}
 use Rattle.htmd_law_documents.proofs.NormalTreeLemmas.{ShowsInLine, ShowsApart, AreIds, IsFine, AreFine, IsLed}
 use Rattle.htmd_law_documents.proofs.NormalTreeLemmas.{IsLedApart, Content, content-text, one-flow, leaf-waits}
@@ -116,10 +119,17 @@ unfolding node_of
 formula-shows-in-line tex attributes h = record { no_item = refl; shows = math-shows tex h.0 }
 
 pub formula-shows-apart : (tex : List ℕ) (is_alone : Bool) (attributes : List AttributePair) → IsBlack tex
-    → ShowsApart (formula tex is_alone attributes)
+    → is_alone ≡ true → ShowsApart (formula tex is_alone attributes)
 unfolding node_of
-formula-shows-apart tex is_alone attributes h = record { no_item = refl; shows = at }
+formula-shows-apart tex is_alone attributes h i = record { no_item = refl; shows = at; follows = behind }
   where
+    behind : (c : Context) → FitsIn c → c.is_flat ≡ false
+        → FineFrom false (bound c) after (formula_parts tex is_alone c)
+    behind c f e =
+        subst (λ (b : Bool). FineFrom false (bound c) after (cond b (contexts.apart (whole (math_block tex) ∷ []))
+        (math_in_line tex c))) (sym (and-true i (not-false e)))
+        (tt, tt, ((math-code tex h.0, omega arith), refl, (tt, tt, tt)))
+
     at : (c : Context) → FitsIn c → c.is_flat ≡ true
         → FineFrom true (bound c) waiting (formula_parts tex is_alone c)
     at c f e =
@@ -170,6 +180,14 @@ lines-show n (t ∷ pieces) around u h f s =
           (tt, tt, code-lines true n pieces around u.1 h.1 f),
     ))
 
+code-black : (content : Simples) → IsClean (all_text_among content) → IsSeen (all_text_among content)
+    → is_blank_text (with_line_feeds (all_text_among content)) ≡ false
+code-black content h v =
+    let all : List ℕ = all_text_among content in
+    let s : List ℕ = with_line_feeds all in
+    let shows : Shows s (visible all) = feeds-show all (visible all) (shows-itself all h.utf8) in
+    test (is_blank_text s) (λ b. absurd (v (sym shows.is ∙ blank-seen s b))) (λ b. b)
+
 verbatim-in-line : (attributes : List AttributePair) (content : Simples) → IsClean (all_text_among content)
     → IsSeen (all_text_among content) → (c : Context) → FitsIn c → c.is_flat ≡ true
     → FineFrom true (bound c) waiting (verbatim_parts attributes content c)
@@ -181,8 +199,7 @@ verbatim-in-line attributes content h v c f e =
     let t : List ℕ = trimmed_text is_line_feed s in
     let trimmed : Shows t (visible s) = trimmed-shows is_line_feed line_feed-white s clean.utf8 in
     let pieces : PiecesShow (lines_of s) (visible t) = pieces-show is_line_feed line_feed-white t trimmed.utf8 in
-    let black : is_blank_text s ≡ false = test (is_blank_text s)
-    (λ b. absurd (v (sym shows.is ∙ blank-seen s b))) (λ b. b) in
+    let black : is_blank_text s ≡ false = code-black content h v in
     let lines : FineFrom true (bound c) waiting (edge ∷ code_parts (lines_of s) c.around) = (
       tt,
       tt,
@@ -199,14 +216,36 @@ verbatim-in-line attributes content h v c f e =
     body c s = contexts.apart (whole (code_block (language_of_block attributes (list_of content) c.near)
         (without_last_line_feed s)) ∷ [])
 
+verbatim-follows : (attributes : List AttributePair) (content : Simples) → IsClean (all_text_among content)
+    → IsSeen (all_text_among content) → (c : Context) → FitsIn c → c.is_flat ≡ false
+    → FineFrom false (bound c) after (verbatim_parts attributes content c)
+verbatim-follows attributes content h v c f e =
+    let s : List ℕ = with_line_feeds (all_text_among content) in
+    let lines : List Part = edge ∷ code_parts (lines_of s) c.around in
+    let body : List Part =
+    contexts.apart (whole (code_block (language_of_block attributes (list_of content) c.near)
+    (without_last_line_feed s)) ∷ []) in
+    subst (λ (b : Bool). FineFrom false (bound c) after (cond b (edge ∷ []) (cond c.is_flat lines body)))
+    (sym (code-black content h v))
+    (subst (λ (b : Bool). FineFrom false (bound c) after (cond b lines body)) (sym e)
+    (tt, tt, ((verbatim-code attributes content c.near h, omega arith), refl, (tt, tt, tt))))
+
 verbatim-shows : (r : Role) (id : ℕ) (facts : Facts) (attributes : List AttributePair) (content : Simples)
     → is_verbatim r ≡ true → IsClean (all_text_among content) → IsSeen (all_text_among content)
     → ShowsApart (element id r facts attributes content)
 unfolding node_of
 verbatim-shows role.Preformatted id facts attributes content v h s =
-    record { no_item = refl; shows = verbatim-in-line attributes content h s }
+    record {
+      no_item = refl;
+      shows = verbatim-in-line attributes content h s;
+      follows = verbatim-follows attributes content h s;
+    }
 verbatim-shows role.Verbatim id facts attributes content v h s =
-    record { no_item = refl; shows = verbatim-in-line attributes content h s }
+    record {
+      no_item = refl;
+      shows = verbatim-in-line attributes content h s;
+      follows = verbatim-follows attributes content h s;
+    }
 verbatim-shows r id facts attributes content v h s = false-true v
 
 -- ---- out of the link
@@ -227,6 +266,11 @@ unlinked-apart t s = record {
       let g : FitsIn d = fit-without [] c.around f in
       one-flow t none d (FineFrom true (bound d) waiting) s.no_item refl
       (fine-from true (bound d) waiting ((node_of t).whole d) [] (s.shows d g e) (fine-nil true (bound d)));
+  follows = λ c f e.
+      let d : Context = contexts.unlinked c in
+      let g : FitsIn d = fit-without [] c.around f in
+      one-flow t none d (FineFrom false (bound d) after) s.no_item refl
+      (fine-from false (bound d) after ((node_of t).whole d) [] (s.follows d g e) (fine-nil false (bound d)));
 }
 
 -- ---- all text stays
@@ -420,7 +464,7 @@ mutual
   plain-shows : (t : Simple) → IsSound t → IsFine t → LeafApart t → ShowsApart t
   plain-shows (text s) u h l = absurd l
   plain-shows (image o attributes) u h l = absurd l
-  plain-shows (formula tex is_alone attributes) u h l = formula-shows-apart tex is_alone attributes h
+  plain-shows (formula tex is_alone attributes) u h l = formula-shows-apart tex is_alone attributes h l
   plain-shows (embedded id place title attributes ids) u h l = absurd l
   plain-shows (anchor id) u h l = absurd l
   plain-shows (element id r facts attributes content) u h l =
@@ -489,7 +533,7 @@ mutual
   cut-shows p (text s) u h l = absurd l
   cut-shows p (image o attributes) u h l = absurd l
   cut-shows p (formula tex is_alone attributes) u h l =
-      leaf-apart p (formula tex is_alone attributes) (formula-shows-apart tex is_alone attributes h)
+      leaf-apart p (formula tex is_alone attributes) (formula-shows-apart tex is_alone attributes h l)
   cut-shows p (embedded id place title attributes ids) u h l = absurd l
   cut-shows p (anchor id) u h l = absurd l
   cut-shows p (element id r facts attributes content) u h l =
@@ -543,7 +587,7 @@ mutual
   pieced-shows : (t : Simple) → IsSound t → IsFine (pieced t) → LeafApart t → ShowsApart (pieced t)
   pieced-shows (text s) u h l = absurd l
   pieced-shows (image o attributes) u h l = absurd l
-  pieced-shows (formula tex is_alone attributes) u h l = formula-shows-apart tex is_alone attributes h
+  pieced-shows (formula tex is_alone attributes) u h l = formula-shows-apart tex is_alone attributes h l
   pieced-shows (embedded id place title attributes ids) u h l = absurd l
   pieced-shows (anchor id) u h l = absurd l
   pieced-shows (element id r facts attributes content) u h l =

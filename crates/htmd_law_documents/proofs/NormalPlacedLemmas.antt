@@ -173,7 +173,7 @@ LeafShows _ = ⊥
 
 -- one that shows as a block, or in a line where all is one line
 abbrev pub LeafApart : Simple → Type 0
-LeafApart (formula tex is_alone attributes) = Unit {0}
+LeafApart (formula tex is_alone attributes) = is_alone ≡ true
 LeafApart (element id r facts attributes content) = (is_verbatim r ≡ true) × (code_shows content ≡ true)
 LeafApart _ = ⊥
 
@@ -294,7 +294,7 @@ image-placed (id ∷ ids) o attributes a h b =
 formula-placed : (ids : List (List ℕ)) (tex : List ℕ) (is_alone : Bool) (attributes : List AttributePair)
     → AllIds ids → IsBlack tex → IsPlaced (after_anchors ids (formula tex is_alone attributes))
 formula-placed [] tex is_alone attributes a h = h
-formula-placed (id ∷ ids) tex true attributes a h = apart-placed (id ∷ ids) (formula tex true attributes) a h tt
+formula-placed (id ∷ ids) tex true attributes a h = apart-placed (id ∷ ids) (formula tex true attributes) a h refl
 formula-placed (id ∷ ids) tex false attributes a h =
     led-placed (id ∷ ids) (formula tex false attributes)
     (led-ids (id ∷ ids) (formula tex false attributes) a (h, refl, refl))

@@ -31,7 +31,7 @@ use Rattle.htmd_flow.specs.Paragraphs.{blocks_in}
 use Rattle.htmd_flow.specs.Parts.{Part, edge, whole}
 use Rattle.htmd_law_documents.proofs.VisibleLemmas.{both-true}
 use Rattle.htmd_law_documents.proofs.NormalTextLemmas.{and-true, from-not}
-use Rattle.htmd_law_documents.proofs.NormalBlockLemmas.{Fine, AllFine, FineBlocks, blocks-fine}
+use Rattle.htmd_law_documents.proofs.NormalBlockLemmas.{Fine, AllFine, FineBlocks, blocks-fine, these_stand}
 use Rattle.htmd_law_documents.proofs.NormalPartsLemmas.{FineParts, good, IsReady, more-ready, begun-ready, ready-blocks}
 use Rattle.htmd_law_documents.proofs.NormalPartsLemmas.{fine-append, fine-nil, fine-edge, fine-whole, fine-apart}
 use Rattle.htmd_law_documents.proofs.NormalPartsLemmas.{fine-either, fine-as}
@@ -49,7 +49,8 @@ pub element-part-fine : (flat : Bool) (n : ℕ) (title : BlockElement) (attribut
     → AreKept attributes → FineBlocks n false bs → FineParts flat n (element_part title attributes bs)
 element-part-fine flat n title attributes no_blocks a h = fine-nil flat n
 element-part-fine flat n title attributes (block b bs) a h =
-    fine-whole flat n (document.element title attributes (block b bs)) ((and-true a refl, h.nearly), h.depth)
+    fine-whole flat n (document.element title attributes (block b bs)) refl
+    ((and-true a refl, h.nearly, h.stand), h.depth)
 
 -- where blocks can be elements the document is rich
 pub rich-is : (c : Context) → has_elements c ≡ true → c.is_rich ≡ true
@@ -222,7 +223,7 @@ one-description : (n : ℕ) (d : Description) → IsReady n false false d.conten
     → Fine n false (description_element d)
 one-description n d h =
     let fine : FineBlocks n false (blocks_in d.content) = ready-blocks n false d.content h in
-    ((and-true refl (may d.is_term (is_filled (blocks_in d.content))), fine.nearly), fine.depth)
+    ((and-true refl (may d.is_term (is_filled (blocks_in d.content))), fine.nearly, fine.stand), fine.depth)
   where
     may : (b filled : Bool) → (filled || may_be_empty (cond b name.Term name.Meaning)) ≡ true
     may true true = refl
@@ -234,15 +235,20 @@ each-description : (n : ℕ) (ds : List Description) → AllReady n ds → AllFi
 each-description n [] h = tt
 each-description n (d ∷ ds) h = (one-description n d h.0, each-description n ds h.1)
 
+descriptions-stand : (ds : List Description) → these_stand false (blocks_of (map description_element ds)) ≡ true
+descriptions-stand [] = refl
+descriptions-stand (d ∷ ds) = descriptions-stand ds
+
 list-fine : (flat : Bool) (n : ℕ) (ds : List Description) → AllReady n ds
     → FineParts flat n (element_of_descriptions ds)
 list-fine flat n [] h = fine-nil flat n
 list-fine flat n (d ∷ ds) h =
     let bs : Blocks = blocks_of (map description_element (d ∷ ds)) in
     let fine : FineBlocks n false bs =
-    blocks-fine n false (map description_element (d ∷ ds)) (each-description n (d ∷ ds) h) in
+    blocks-fine n false (map description_element (d ∷ ds)) (each-description n (d ∷ ds) h)
+    (descriptions-stand (d ∷ ds)) in
     fine-either flat n (list_any is_filled_description (d ∷ ds)) (whole (document.element name.Terms [] bs) ∷ []) []
-    (λ e. fine-whole flat n (document.element name.Terms [] bs) ((refl, fine.nearly), fine.depth))
+    (λ e. fine-whole flat n (document.element name.Terms [] bs) refl ((refl, fine.nearly, fine.stand), fine.depth))
     (λ e. fine-nil flat n)
 
 pub described-parts-fine : (terms : List TermPart) → FineTerms terms → GivesAt false (described_parts terms)

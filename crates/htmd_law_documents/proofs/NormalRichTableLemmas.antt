@@ -34,7 +34,8 @@ use Rattle.htmd_flow.specs.TableElements as elements
 use Rattle.htmd_flow.specs.TableElements.{is_paragraph_at_most, is_paragraph_cell, inlines_in, stretch_of, stretched}
 use Rattle.htmd_law_documents.proofs.VisibleLemmas.{both-true}
 use Rattle.htmd_law_documents.proofs.NormalTextLemmas.{and-true, false-true}
-use Rattle.htmd_law_documents.proofs.NormalBlockLemmas.{NearlyAll, IsParagraph, Fine, AllFine, FineBlocks, blocks-fine}
+use Rattle.htmd_law_documents.proofs.NormalBlockLemmas.{NearlyAll, IsParagraph, Fine, AllFine, FineBlocks}
+use Rattle.htmd_law_documents.proofs.NormalBlockLemmas.{blocks-fine, these_stand}
 use Rattle.htmd_law_documents.proofs.NormalPartsLemmas.{FineParts, fine-apart, fine-either, fine-as}
 use Rattle.htmd_law_documents.proofs.NormalPartsLemmas as parts
 use Rattle.htmd_law_documents.proofs.NormalGridLemmas.{AreLines, AllLines, FineOption, table-all-fine}
@@ -171,7 +172,7 @@ cell-fine n c h =
     kept-append (columns ++ rows) (elements.align_attribute c.alignment)
     (kept-append columns rows (span-kept attribute.ColumnSpan c.columns) (span-kept attribute.RowSpan c.rows))
     (align-kept c.alignment) in
-    ((and-true kept (may c.is_header (is_filled c.content)), h.0.nearly), h.0.depth)
+    ((and-true kept (may c.is_header (is_filled c.content)), h.0.nearly, h.0.stand), h.0.depth)
   where
     may : (b filled : Bool) → (filled || may_be_empty (cond b name.HeaderCell name.Cell)) ≡ true
     may true filled = or-yes filled
@@ -182,13 +183,23 @@ cells-fine : (n : ℕ) (cells : List elements.Cell) → WellCells n cells
 cells-fine n [] h = tt
 cells-fine n (c ∷ cells) h = (cell-fine n c h.0, cells-fine n cells h.1)
 
+cells-stand : (cells : List elements.Cell) → these_stand false (blocks_of (map elements.cell_element cells)) ≡ true
+cells-stand [] = refl
+cells-stand (c ∷ cells) = cells-stand cells
+
+pieces-stand : (pieces : List elements.Piece)
+    → these_stand false (blocks_of (map elements.piece_element pieces)) ≡ true
+pieces-stand [] = refl
+pieces-stand (elements.caption content ∷ pieces) = pieces-stand pieces
+pieces-stand (elements.row r ∷ pieces) = pieces-stand pieces
+
 piece-fine : (n : ℕ) (p : elements.Piece) → WellPiece n p → Fine n false (elements.piece_element p)
-piece-fine n (elements.caption content) h = ((ap (λ b. b || false) h.1, h.0.nearly), h.0.depth)
+piece-fine n (elements.caption content) h = ((ap (λ b. b || false) h.1, h.0.nearly, h.0.stand), h.0.depth)
 piece-fine n (elements.row r) h =
     let bs : Blocks = blocks_of (map elements.cell_element r.cells) in
     let fine : FineBlocks n false bs =
-    blocks-fine n false (map elements.cell_element r.cells) (cells-fine n r.cells h) in
-    ((or-yes (is_filled bs), fine.nearly), fine.depth)
+    blocks-fine n false (map elements.cell_element r.cells) (cells-fine n r.cells h) (cells-stand r.cells) in
+    ((or-yes (is_filled bs), fine.nearly, fine.stand), fine.depth)
 
 pieces-fine : (n : ℕ) (pieces : List elements.Piece) → WellPieces n pieces
     → AllFine n false (map elements.piece_element pieces)
@@ -207,11 +218,12 @@ elements-fine n border [] h = tt
 elements-fine n border (p ∷ pieces) h =
     let bs : Blocks = blocks_of (map elements.piece_element (p ∷ pieces)) in
     let fine : FineBlocks n false bs =
-    blocks-fine n false (map elements.piece_element (p ∷ pieces)) (pieces-fine n (p ∷ pieces) h) in
+    blocks-fine n false (map elements.piece_element (p ∷ pieces)) (pieces-fine n (p ∷ pieces) h)
+    (pieces-stand (p ∷ pieces)) in
     either-option n (list_any elements.is_filled_piece (p ∷ pieces))
     (Some (element name.Table (elements.border_attribute border) bs))
     None
-    (λ e. ((and-true (border-kept border) refl, fine.nearly), fine.depth)) (λ e. tt)
+    (λ e. (((and-true (border-kept border) refl, fine.nearly, fine.stand), fine.depth), refl)) (λ e. tt)
 
 -- ---- GitHub's form
 

@@ -53,7 +53,8 @@ use Rattle.htmd_law_documents.proofs.ShownTreeLemmas.{GoodBy, no-by, one-by, eit
 use Rattle.htmd_law_documents.proofs.ShownTreeLemmas.{embedded-by, address-good}
 use Rattle.htmd_law_documents.proofs.NormalTextLemmas.{from-not}
 use Rattle.htmd_law_documents.proofs.NormalLeafLemmas.{AllIds}
-use Rattle.htmd_law_documents.proofs.NormalValueLemmas.{IsClean, IsBlack, shown-clean, in_line-clean, address-fine, utf8-trimmed}
+use Rattle.htmd_law_documents.proofs.NormalValueLemmas.{IsClean, IsBlack, shown-clean, in_line-clean, address-fine}
+use Rattle.htmd_law_documents.proofs.NormalValueLemmas.{utf8-trimmed}
 use Rattle.htmd_law_documents.proofs.NormalValueLemmas.{AreTexts, texts-of}
 use Rattle.htmd_law_documents.proofs.NormalElementLemmas.{IsSource, IsLevel}
 use Rattle.htmd_law_documents.proofs.NormalSeenElementLemmas.{blank-line}

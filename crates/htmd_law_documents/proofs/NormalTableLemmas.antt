@@ -120,7 +120,7 @@ block-fine c f rows h =
 
 pub option-fine : (flat : Bool) (n : ℕ) (o : Option Block) → FineOption n o → FineParts flat n (block_part o)
 option-fine flat n None h = fine-nil flat n
-option-fine flat n (Some b) h = fine-whole flat n b h
+option-fine flat n (Some b) h = fine-whole flat n b h.1 h.0
 
 grid-fine : (nodes : List Node) (rows : List Row) → FineNodes nodes → RowNodes rows
     → Gives (grid_inside nodes rows)

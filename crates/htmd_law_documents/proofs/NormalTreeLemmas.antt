@@ -1,5 +1,6 @@
 -- Simpler trees give what a normal document is made of.
 use Rattle.std.proofs.Common.{◌≡◌, ℕ, Bool, true, false, cond, List, [], ◌∷◌, ◌++◌, refl, sym, ap, ◌∙◌, subst, None}
+use Rattle.std.proofs.Common.{append_assoc}
 use Rattle.std.proofs.Common.{◌⊎◌, inl, inr}
 use Rattle.std.specs.Prelude.{codes}
 use Rattle.std.specs.Str.{is_utf8, chars}
@@ -23,8 +24,10 @@ use Rattle.htmd_flow.specs.Parts.{Part, edge}
 use Rattle.htmd_law_documents.proofs.NormalTextLemmas.{all-append}
 use Rattle.htmd_law_documents.proofs.NormalLettersLemmas.{characters-append}
 use Rattle.htmd_law_documents.proofs.NormalLeafLemmas.{IsId, AllIds}
-use Rattle.htmd_law_documents.proofs.NormalPartsLemmas.{is_text_character, FineParts, FineFrom, alone, good, waiting}
-use Rattle.htmd_law_documents.proofs.NormalPartsLemmas.{fine-from, fine-append, fine-alone, fine-nil, fine-edges}
+use Rattle.htmd_law_documents.proofs.NormalPartsLemmas.{is_text_character, FineParts, FineFrom, Runs, Wait}
+use Rattle.htmd_law_documents.proofs.NormalPartsLemmas.{Settles, alone, lone}
+use Rattle.htmd_law_documents.proofs.NormalPartsLemmas.{after, good, waiting, fine-from, fine-append, fine-alone}
+use Rattle.htmd_law_documents.proofs.NormalPartsLemmas.{fine-nil}
 use Rattle.htmd_law_documents.proofs.NormalValueLemmas.{IsClean, IsBlack, clean-nil, shown-clean, AreTexts, value-text}
 use Rattle.htmd_law_documents.proofs.NormalValueLemmas.{in_line-clean}
 use Rattle.htmd_law_documents.proofs.NormalNodesLemmas.{bound, FitsIn, GivesFrom, Gives, FineNode}
@@ -39,11 +42,13 @@ pub record ShowsInLine (t : Simple) : Type 0 where
   pub no_item : has roles.is_item t ≡ false
   pub shows : GivesFrom waiting (node_of t).whole
 
--- a node that shows in a line where all is one line
+-- a node that shows in a line where all is one line, and else is a code block
 pub record ShowsApart (t : Simple) : Type 0 where
   pub no_item : has roles.is_item t ≡ false
   pub shows : (c : Context) → FitsIn c → c.is_flat ≡ true
       → FineFrom true (bound c) waiting ((node_of t).whole c)
+  pub follows : (c : Context) → FitsIn c → c.is_flat ≡ false
+      → FineFrom false (bound c) after ((node_of t).whole c)
 
 -- nothing but anchors
 abbrev pub AreIds : Simples → Type 0
@@ -191,16 +196,27 @@ content-text r content h =
 
 module _ (n : ℕ) (c : Context) where
   -- nothing shows, and they wait there
-  pub ids-alone : (ts : Simples) → AreIds ts → (ps : List Part) → FineFrom false n alone ps
-      → FineFrom false n alone (flow_all (nodes_of ts) c ++ ps)
+  pub ids-lone : (E : Wait → Type 0) (ts : Simples) → AreIds ts → (ps : List Part) → Runs E false n lone ps
+      → Runs E false n lone (flow_all (nodes_of ts) c ++ ps)
   unfolding node_of
-  ids-alone none h ps f = f
-  ids-alone (more (anchor id) ts) h ps f = (h.0, tt, ids-alone ts h.1 ps f)
-  ids-alone (more (text s) ts) h ps f = absurd h
-  ids-alone (more (image o attributes) ts) h ps f = absurd h
-  ids-alone (more (formula tex is_alone attributes) ts) h ps f = absurd h
-  ids-alone (more (embedded id address title attributes ids) ts) h ps f = absurd h
-  ids-alone (more (element id r facts attributes content) ts) h ps f = absurd h
+  ids-lone E none h ps f = f
+  ids-lone E (more (anchor id) ts) h ps f = (h.0, tt, ids-lone E ts h.1 ps f)
+  ids-lone E (more (text s) ts) h ps f = absurd h
+  ids-lone E (more (image o attributes) ts) h ps f = absurd h
+  ids-lone E (more (formula tex is_alone attributes) ts) h ps f = absurd h
+  ids-lone E (more (embedded id address title attributes ids) ts) h ps f = absurd h
+  ids-lone E (more (element id r facts attributes content) ts) h ps f = absurd h
+
+  pub ids-alone : (E : Wait → Type 0) (ts : Simples) → AreIds ts → (ps : List Part) → Runs E false n alone ps
+      → Runs E false n lone ps → Runs E false n alone (flow_all (nodes_of ts) c ++ ps)
+  unfolding node_of
+  ids-alone E none h ps g f = g
+  ids-alone E (more (anchor id) ts) h ps g f = (h.0, tt, ids-lone E ts h.1 ps f)
+  ids-alone E (more (text s) ts) h ps g f = absurd h
+  ids-alone E (more (image o attributes) ts) h ps g f = absurd h
+  ids-alone E (more (formula tex is_alone attributes) ts) h ps g f = absurd h
+  ids-alone E (more (embedded id address title attributes ids) ts) h ps g f = absurd h
+  ids-alone E (more (element id r facts attributes content) ts) h ps g f = absurd h
 
   ids-wait : (ts : Simples) → AreIds ts → (ps : List Part) → FineFrom true n waiting ps
       → FineFrom true n waiting (flow_all (nodes_of ts) c ++ ps)
@@ -266,12 +282,14 @@ led-waits (more (element id r facts attributes content) ts) h c f =
 module _ (c : Context) (f : FitsIn c) (inner : Simples) (ids : AreIds inner) where
   apart-first : (flat : Bool) (ps : List Part) → FineFrom flat (bound c) good ps
       → (flat ≡ true → FineFrom true (bound c) waiting ps)
+      → (flat ≡ false → FineFrom false (bound c) after ps)
       → FineParts flat (bound c) (cond flat (flow_all (nodes_of inner) c) (apart (flow_all (nodes_of inner) c)) ++ ps)
-  apart-first true ps g h = ids-first (bound c) c inner ids ps g (h refl)
-  apart-first false ps g h =
+  apart-first true ps g h k = ids-first (bound c) c inner ids ps g (h refl)
+  apart-first false ps g h k =
       let n : ℕ = bound c in
-      fine-append false n (apart (flow_all (nodes_of inner) c)) ps
-      (tt, tt, ids-alone n c inner ids (edge ∷ []) (fine-alone n good (edge ∷ []) (fine-edges false n))) g
+      subst (λ (qs : List Part). FineFrom false n good (edge ∷ qs))
+      (sym (append_assoc (flow_all (nodes_of inner) c) (edge ∷ []) ps))
+      (tt, tt, ids-alone n c (Settles false) inner ids (edge ∷ ps) (tt, tt, fine-alone n ps g) (tt, tt, k refl))
 
 -- the leaf after them
 pub apart-good : (t : Simple) (ts inner : Simples) → FineNode (node_of t) → ShowsApart t → ts ≡ none
@@ -284,3 +302,5 @@ apart-good t ts inner n s e ids c f =
     (fine-append c.is_flat (bound c) ((node_of t).whole c) [] (n.whole c f) (fine-nil c.is_flat (bound c))))
     (λ b. one-flow t ts c (FineFrom true (bound c) waiting) s.no_item e
     (fine-from true (bound c) waiting ((node_of t).whole c) [] (s.shows c f b) (fine-nil true (bound c))))
+    (λ b. one-flow t ts c (FineFrom false (bound c) after) s.no_item e
+    (fine-from false (bound c) after ((node_of t).whole c) [] (s.follows c f b) (fine-nil false (bound c))))

@@ -1,6 +1,6 @@
 -- What a reader takes from the texts of documents and of trees, by what stands around them.
 use Rattle.std.proofs.Common.{◌≡◌, ℕ, Bool, true, false, List, [], ◌∷◌, ◌++◌, map, refl, sym, ap, ◌∙◌}
-use Rattle.std.specs.Prelude.{not, ◌&&◌, ◌||◌, if◌then◌else◌, codes, Option, None, is_some}
+use Rattle.std.specs.Prelude.{not, ◌&&◌, ◌||◌, if◌then◌else◌, codes, Option, Some, None, is_some}
 use Rattle.std.specs.List.{flat_map}
 use Rattle.std.specs.Str.{IsUtf8}
 use Rattle.std.proofs.lemmas.Str.{IsUtf8-nil}
@@ -29,7 +29,7 @@ use Rattle.htmd_law_documents.proofs.VisibleLemmas.{Shows, shows-nil, and-false}
 use Rattle.htmd_law_documents.proofs.ElementLemmas.{false-true}
 
 -- what is taken from a text in these wrappers: piece by piece, and the same from the same visible characters; and what
--- of an anchor
+-- of an anchor, and of an image beside its description
 pub record Reader : Type 1 where
   pub Wrap : Type 0
   pub Seen : Type 0
@@ -37,6 +37,7 @@ pub record Reader : Type 1 where
   pub as_link : List ℕ → Wrap
   pub read : List Wrap → Bool → List ℕ → List Seen
   pub mark : List ℕ → List Seen
+  pub picture : List Seen
   pub nothing : (wrappers : List Wrap) (is_code : Bool) → read wrappers is_code [] ≡ []
   pub joins : (wrappers : List Wrap) (is_code : Bool) (s t : List ℕ) → IsUtf8 s → IsUtf8 t
       → read wrappers is_code (s ++ t) ≡ read wrappers is_code s ++ read wrappers is_code t
@@ -96,7 +97,7 @@ module _ (R : Reader) where
     read_inline wrappers (code s) = R.read wrappers true s
     read_inline wrappers (formatted format content) = read_line (wrappers ++ R.as_format format ∷ []) content
     read_inline wrappers (link address title content) = read_line (wrappers ++ R.as_link address ∷ []) content
-    read_inline wrappers (image address title description) = R.read wrappers false description
+    read_inline wrappers (image address title description) = R.picture ++ R.read wrappers false description
     read_inline wrappers (anchor id) = R.mark id
     read_inline wrappers line_break = []
     read_inline wrappers (task is_checked) = []
@@ -137,9 +138,15 @@ module _ (R : Reader) where
   abbrev pub read_in : Context → List ℕ → List R.Seen
   read_in context s = R.read (map read_around context.around) context.is_code s
 
+  -- an image without an address is its description alone
+  abbrev pub read_picture : Option (List ℕ) → List R.Seen
+  read_picture None = []
+  read_picture (Some address) = R.picture
+
   abbrev pub read_image : Context → Option (List ℕ) → List AttributePair → List R.Seen
   read_image context address attributes =
-      R.read (map read_around context.around) (context.is_code && not (is_some address))
+      read_picture address
+      ++ R.read (map read_around context.around) (context.is_code && not (is_some address))
       (text_of (codes "alt") attributes)
 
   -- in a line, and as it is

@@ -66,6 +66,7 @@ texts = record {
   as_link = λ address. tt;
   read = λ wrappers is_code s. taken s;
   mark = λ id. [];
+  picture = [];
   nothing = λ wrappers is_code. taken-good [] IsUtf8-nil ∙ ap (map Some) shows-nil.is;
   joins = λ wrappers is_code s t u v. taken-append s t u v;
   same = λ wrappers is_code s t u v e. taken-good s u ∙ (ap (map Some) e ∙ sym (taken-good t v));
@@ -286,7 +287,8 @@ mutual
   pub tree-taken : (t : Simple) → IsSound t → (c : Context) (g : Bool) → c.is_rich ≡ false
       → read_tree texts t c g ≡ taken (text_of_simple c.is_flat g t)
   tree-taken (simple.text s) u c g p = refl
-  tree-taken (simple.image address attributes) u c g p = refl
+  tree-taken (simple.image None attributes) u c g p = refl
+  tree-taken (simple.image (Some address) attributes) u c g p = refl
   tree-taken (simple.formula tex is_alone attributes) u c g p = formula-taken tex u is_alone c
   tree-taken (simple.embedded id address title attributes anchors) u c g p =
       ap (λ xs. xs ++ taken title) (no-marks texts (λ i. refl) anchors)
@@ -379,7 +381,9 @@ module _ (id : ℕ) (facts : Facts) (attributes : List AttributePair) (content :
 mutual
   tree-said : (t : Simple) → IsSound t → (c : Context) (g : Bool) → SaidOne c.is_flat g t (read_tree texts t c g)
   tree-said (simple.text s) u c g = (visible s, taken-good s u, refl)
-  tree-said (simple.image address attributes) u c g =
+  tree-said (simple.image None attributes) u c g =
+      (visible (text_of (codes "alt") attributes), taken-good (text_of (codes "alt") attributes) u, refl)
+  tree-said (simple.image (Some address) attributes) u c g =
       (visible (text_of (codes "alt") attributes), taken-good (text_of (codes "alt") attributes) u, refl)
   tree-said (simple.formula tex is_alone attributes) u c g =
       let s : List ℕ = formula_said (is_alone && not c.is_flat) tex in (

@@ -205,8 +205,9 @@ module _ (R : Reader) where
         let h : Shows (description_of attributes) (visible alt) = in_line-shows alt u in
         record {
           linked = ((h.utf8, a), tt);
-          is = append-nil (R.read (map (read_around R) c.around) false (description_of attributes))
-              ∙ (R.same (map (read_around R) c.around) false (description_of attributes) alt h.utf8 u h.is
+          is = append-nil (R.picture ++ R.read (map (read_around R) c.around) false (description_of attributes))
+              ∙ ap (λ cs. R.picture ++ cs)
+              (R.same (map (read_around R) c.around) false (description_of attributes) alt h.utf8 u h.is
               ∙ ap (λ k. R.read (map (read_around R) c.around) k alt) (sym (and-false c.is_code refl)));
         }
     image-keeps None attributes c a u =

@@ -24,8 +24,8 @@ module _ (R : Reader) where
   -- the characters in wrappers of a part; a block gives none where all is one line
   abbrev pub part_wrapped : Bool → Part → List R.Seen
   part_wrapped in_line (run s around is_code) = R.read (map (read_around R) around) is_code s
-  part_wrapped in_line (picture address title description around) = R.read
-      (map (read_around R) around) false description
+  part_wrapped in_line (picture address title description around) =
+      R.picture ++ R.read (map (read_around R) around) false description
   part_wrapped in_line break = []
   part_wrapped in_line (place id) = R.mark id
   part_wrapped in_line (box is_checked) = []

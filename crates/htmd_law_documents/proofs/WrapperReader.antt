@@ -1,7 +1,7 @@
 -- The reader that takes the visible characters, each with what stands around it.
 use Rattle.std.proofs.Common.{◌≡◌, ℕ, Bool, true, false, List, [], ◌∷◌, ◌++◌, map, refl, ap, ◌∙◌}
 use Rattle.std.proofs.Common.{cond}
-use Rattle.std.specs.Prelude.{not, ◌&&◌, codes, None, is_some}
+use Rattle.std.specs.Prelude.{not, ◌&&◌, codes, Some, None}
 use Rattle.std.specs.List.{flat_map}
 use Rattle.std.specs.Str.{IsUtf8}
 use Rattle.std.proofs.lemmas.List.{map-append}
@@ -50,6 +50,7 @@ wrapped = record {
   as_link = of_link;
   read = in_wrappers;
   mark = λ id. [];
+  picture = [];
   nothing = λ wrappers is_code. ap (map (as_wrapped wrappers is_code)) shows-nil.is;
   joins = in_wrappers-append;
   same = λ wrappers is_code s t u v e. ap (map (as_wrapped wrappers is_code)) e;
@@ -162,8 +163,10 @@ by-wrappers id facts attributes all holds_grid f g e c b r = e _ _
 mutual
   tree-wrappers : (t : Simple) (c : Context) (b : Bool) → read_tree wrapped t c b ≡ wrappers_of_tree t c b
   tree-wrappers (simple.text s) c b = same-around c.around c.is_code s
-  tree-wrappers (simple.image address attributes) c b =
-      same-around c.around (c.is_code && not (is_some address)) (text_of (codes "alt") attributes)
+  tree-wrappers (simple.image None attributes) c b =
+      same-around c.around (c.is_code && true) (text_of (codes "alt") attributes)
+  tree-wrappers (simple.image (Some address) attributes) c b =
+      same-around c.around (c.is_code && false) (text_of (codes "alt") attributes)
   tree-wrappers (simple.formula tex is_alone attributes) c b = formula-wrappers c is_alone tex
   tree-wrappers (simple.embedded id address title attributes anchors) c b =
       ap (λ xs. xs ++ read_in wrapped (inside_link id address None c) title) (no-marks wrapped (λ i. refl) anchors)

@@ -124,7 +124,7 @@ mutual
       (unlettered t u.0 (front-empty (letters_of t) (letters_among ts) e) f g)
       ∙ all-unlettered ts u.1 (back-empty (letters_of t) (letters_among ts) e) f g)
 
-code-unseen : (content : Simples) → AreSound content → code_shows content ≡ false
+pub code-unseen : (content : Simples) → AreSound content → code_shows content ≡ false
     → Shows (all_text_among content) []
 code-unseen content u e =
     let s = all-texts-show content u false in
@@ -328,20 +328,20 @@ module _ (R : Reader) where
       (ap (λ x. not facts.is_blank && x) (all-quieter b content e) ∙ and-false (not facts.is_blank))) u
 
   mutual
-    silent-tree : (t : Simple) → IsFit R false t → (in_heading : Bool) → shows in_heading t ≡ false
+    pub silent-tree : (t : Simple) → IsFit R false t → (in_heading : Bool) → shows in_heading t ≡ false
         → (c : Context) (g : Bool)
         → read_tree R t c g ≡ []
     silent-tree (text s) u b e c g =
         unseen R (map (read_around R) c.around) c.is_code s
         (record { utf8 = u; is = blank-seen s (not-false (is_blank_text s) e) })
-    silent-tree (image address attributes) u b e c g =
+    silent-tree (image (Some address) attributes) u b e c g = true-false e
+    silent-tree (image None attributes) u b e c g =
         let alt : List ℕ = attribute.text_of (codes "alt") attributes in
-        let parts = neither (is_some address) (not (is_blank_text (image_text attributes))) e in
-        unseen R (map (read_around R) c.around) (c.is_code && not (is_some address)) alt
+        unseen R (map (read_around R) c.around) (c.is_code && true) alt
         (record {
           utf8 = u;
           is = sym (shown-shows alt u).is
-              ∙ blank-seen (image_text attributes) (not-false (is_blank_text (image_text attributes)) parts.1);
+              ∙ blank-seen (image_text attributes) (not-false (is_blank_text (image_text attributes)) e);
         })
     silent-tree (formula tex is_alone attributes) u b e c g = true-false e
     silent-tree (embedded id address title attributes anchors) u b e c g = true-false e

@@ -1,5 +1,6 @@
 -- The simpler tree: each node keeps the wrappers of what is in it.
 use Rattle.std.proofs.Common.{◌≡◌, ℕ, Bool, true, false, cond, List, [], ◌∷◌, ◌++◌, refl, sym, ap, ◌∙◌, map}
+use Rattle.std.proofs.Common.{subst}
 use Rattle.std.specs.List.{list_any}
 use Rattle.std.proofs.lemmas.List.{append-nil}
 use Rattle.std.proofs.lemmas.Grind.{flat_map-append}
@@ -11,6 +12,7 @@ use Rattle.htmd_shown.specs.Roles as roles
 use Rattle.htmd_shown.specs.SimpleTrees.{Simple, text, image, formula, embedded, anchor, element, Simples, none, more}
 use Rattle.htmd_flow.specs.Contexts.{Context, bare_in}
 use Rattle.htmd_flow.specs.Flows.{Node, TermPart, gap, of_node, node_of, nodes_of, nodes_below, pieces_of, terms_of}
+use Rattle.htmd_flow.specs.Flows.{blocks_of}
 use Rattle.htmd_flow.specs.Flows.{around_node, parts_of_child, flow_all, rows_of_table, is_grid_of, document_of}
 use Rattle.htmd_flow.specs.Levels.{list_of}
 use Rattle.htmd_flow.specs.Terms.{is_group, is_term_or_meaning}
@@ -110,7 +112,7 @@ module _ (R : Reader) where
         )
         either false = (k.0, tt)
 
-    kept-terms : (ts : Simples) → KeptTrees R addr ts → TermsKeep R addr (terms_of ts)
+    pub kept-terms : (ts : Simples) → KeptTrees R addr ts → TermsKeep R addr (terms_of ts)
     unfolding node_of
     kept-terms none k = tt
     kept-terms (more t ts) k =
@@ -181,14 +183,21 @@ module _ (R : Reader) where
             k,
           )
 
-      trees-kept : (here : Bool) (ts : Simples) → AreFit R here ts → HaveAddresses ts → KeptTrees R addr ts
+      pub trees-kept : (here : Bool) (ts : Simples) → AreFit R here ts → HaveAddresses ts → KeptTrees R addr ts
       trees-kept here none u d = tt
       trees-kept here (more t ts) u d = (tree-kept here t u.0 d.0, trees-kept here ts u.1 d.1)
 
-    -- ---- the document
+    -- ---- blocks and the document
+
+    -- what a node that isn't in one line holds is in its blocks
+    pub content-keeps : (here : Bool) (ts : Simples) → AreFit R here ts → HaveAddresses ts → (c : Context)
+        → Agree R addr c → c.is_flat ≡ false
+        → read_blocks R (blocks_of false (flow_all (nodes_of ts) c)) ≡ read_trees R ts (shallow c) false
+    content-keeps here ts u d c a e =
+        blocks-keep R addr false (flow_all (nodes_of ts) c) (read_trees R ts (shallow c) false)
+        (subst (λ (b : Bool). Keep R addr b (flow_all (nodes_of ts) c) (read_trees R ts (shallow c) false)) e
+        (flow-kept ts (trees-kept here ts u d) c a))
 
     pub document-keeps : (is_rich : Bool) (ts : Simples) → AreFit R true ts → HaveAddresses ts
         → read_blocks R (document_of is_rich ts) ≡ read_trees R ts (bare_in is_rich) false
-    document-keeps is_rich ts u d =
-        blocks-keep R addr false (flow_all (nodes_of ts) (bare_in is_rich)) (read_trees R ts (bare_in is_rich) false)
-        (flow-kept ts (trees-kept true ts u d) (bare_in is_rich) tt)
+    document-keeps is_rich ts u d = content-keeps true ts u d (bare_in is_rich) tt refl

@@ -3,7 +3,7 @@ ghost use Rattle.htmd_nodes.specs.NumberedTrees.{tree_of};
 ghost use Rattle.htmd_document.specs.NormalDocuments.{IsNormal};
 ghost use Rattle.htmd_shown.specs.SightViews.{sight_with};
 ghost use Rattle.htmd_document_of_tree.specs.TreeDocuments.{document_of_tree};
-ghost use Rattle.htmd_law_documents.specs.NormalLaws.{DocumentsAreNormal, TablesHaveRightLength};
+ghost use Rattle.htmd_law_documents.specs.NormalLaws.{DocumentsAreNormal, TablesHaveRightLength, LoneAnchorsStand};
 
 use htmd_document_of_tree::Anchors;
 use htmd_nodes::Tree;
@@ -16,6 +16,11 @@ pub fn documents_are_normal()
 /// No table of it has columns that it doesn't need.
 pub fn tables_have_right_length()
     ensures { TablesHaveRightLength }
+{}
+
+/// A paragraph of anchors alone stands in it right before a code block, or at its end.
+pub fn lone_anchors_stand()
+    ensures { LoneAnchorsStand }
 {}
 
 /// The document of every `Tree` is in normal form, whether scripts run or not, whatever names are skipped, and whether
