@@ -9,14 +9,12 @@ use Rattle.htmd_lexical.specs.AttributePairs.{AttributePair}
 use Rattle.htmd_lexical.specs.Characters.{line_feed}
 use Rattle.htmd_values.specs.ValueTrees as value
 use Rattle.htmd_nodes.specs.NumberedTrees.{NumberedForest, value_forest}
-use Rattle.htmd_nodes.specs.NumberedTrees as page
 use Rattle.htmd_document.specs.AnchorIds.{ids_of_line}
 use Rattle.htmd_document.specs.Documents.{Inlines, no_inlines, inline, paragraph, Block, Blocks, no_blocks, block}
 use Rattle.htmd_document.specs.Documents as documents
 use Rattle.htmd_document.specs.NormalDocuments.{is_normal_paragraph}
 use Rattle.htmd_document.specs.NormalInlines.{are_anchors, are_normal, are_whole, is_normal_line, is_text}
 use Rattle.htmd_document.specs.NormalInlines.{anchors_stand_well, has_none, is_trimmed}
-use Rattle.htmd_document.specs.declared.document.BlockElement.TheVariants as an
 use Rattle.htmd_flow.specs.Contexts.{apart}
 use Rattle.htmd_flow.specs.Flows.{node_of}
 use Rattle.htmd_flow.specs.Levels.{list_of}
@@ -25,23 +23,30 @@ use Rattle.htmd_flow.specs.Parts.{Part, run, edge}
 use Rattle.htmd_shown.specs.Facts.{made, facts_of}
 use Rattle.htmd_shown.specs.Kinds.{has}
 use Rattle.htmd_shown.specs.Roles.{is_paragraph}
+use Rattle.htmd_shown.specs.Showings.{show}
 use Rattle.htmd_shown.specs.SimpleTrees.{Simple, Simples, text, element, none, more}
 use Rattle.htmd_shown.specs.declared.facts.Facts.{Facts}
 use Rattle.htmd_shown.specs.declared.role.Role.TheVariants as role
-use Rattle.htmd_law_returning.specs.LastingAnchors.{line, lines_in, line_keeps, stand_alone}
-use Rattle.htmd_law_returning.specs.SettledDocuments.{weight_among, weight_in, said_among, said_in, is_one_line}
+use Rattle.htmd_law_returning.specs.LastingAnchors.{title_keeps, heading_keeps}
+use Rattle.htmd_law_returning.specs.NoAnchors.{blocks_have_no_anchors}
+use Rattle.htmd_law_returning.proofs.FirstTargets.{first-behind, plain-nameless}
+use Rattle.htmd_law_returning.proofs.HomeAnchors.{none-in-blocks}
+use Rattle.htmd_law_returning.proofs.LocalAnchors.{come_first, led-first}
+use Rattle.htmd_law_returning.specs.LastingAnchors.{line, lines_in, line_keeps}
+use Rattle.htmd_document.specs.LoneAnchors.{stand_alone}
+use Rattle.htmd_law_returning.specs.SettledDocuments.{behind_box, weight_among, weight_in, said_among, said_in}
+use Rattle.htmd_law_returning.specs.SettledDocuments.{is_one_line}
 use Rattle.htmd_law_returning.proofs.AloneLemmas.{alone, line-of-anchors}
 use Rattle.htmd_law_returning.proofs.CostLemmas.{AllSpend, spend-none, spend-more, spend-element, spend-past}
 use Rattle.htmd_law_returning.proofs.CostLemmas.{spend-text}
 use Rattle.htmd_law_returning.proofs.FlowLemmas.{paragraph-parts, titled_of}
-use Rattle.htmd_law_returning.proofs.GivenBlocks.{AreGiven, AreParts, plain-parts, titled-parts, untitled-more}
+use Rattle.htmd_law_returning.proofs.GivenBlocks.{AreGiven, AreParts, plain-parts, titled-parts, title_of}
+use Rattle.htmd_law_returning.proofs.GivenBlocks.{untitled-more}
 use Rattle.htmd_law_returning.proofs.KindLemmas.{line-behind, line-keeps, line-blank}
 use Rattle.htmd_law_returning.proofs.LineFormLemmas.{normal-one}
-use Rattle.htmd_law_returning.proofs.LocalAnchors.{local, local_all, own_id, pending_all}
-use Rattle.htmd_law_returning.proofs.LocalLines.{place-id}
-use Rattle.htmd_law_returning.proofs.PageLemmas.{and-false}
-use Rattle.htmd_law_returning.proofs.StartLemmas.{has_task}
-use Rattle.htmd_law_returning.proofs.LeanTrees.{are_thin, heavy-trees}
+use Rattle.htmd_law_returning.proofs.LocalAnchors.{are_led, local, local_all, own_id, pending_all}
+use Rattle.htmd_law_returning.proofs.LocalLines.{place-id, place-led}
+use Rattle.htmd_law_returning.proofs.LeanTrees.{AreLeanTrees, alone-lean, is_black, line-unseen}
 use Rattle.htmd_law_returning.proofs.PageLemmas.{from-none, from-element, line-shown, none-shown, shown_of}
 use Rattle.htmd_law_returning.proofs.ReadyLemmas.{parts_of, IsReady, edge-fed, line-ready, clean-ready, ready-flat}
 use Rattle.htmd_law_returning.proofs.ReadyLemmas.{none-parts}
@@ -64,9 +69,11 @@ target-parts is_rich n id facts attributes ts = refl
 -- nodes that are anchors alone
 pub record AreTargets (is_rich : Bool) (ts : Simples) (xs : Inlines) : Type 0 where
   pub sound : IsSoundLine xs ts
+  pub led : are_led ts ≡ true
   pub spent : AllSpend (weight_among xs) (said_among xs) ts
   pub wait : (ids : List (List ℕ)) → pending_all ids ts ≡ ids ++ ids_of_line xs
   pub nothing : (n : ℕ) (ids : List (List ℕ)) → parts_of is_rich n (local_all ids ts) ≡ []
+  pub unseen : show false ts ≡ false
 
 module _ (scripting is_rich : Bool) where
   pub targets-shown : (xs : Inlines) (before : Option (List AttributePair)) (f : NumberedForest)
@@ -78,9 +85,11 @@ module _ (scripting is_rich : Bool) where
       (sym (ap (shown_of scripting is_rich before) (from-none f e) ∙ none-shown scripting is_rich before))
       (record {
         sound = sound-end;
+        led = refl;
         spent = spend-none;
         wait = λ ids. sym (append-nil ids);
         nothing = λ n ids. none-parts is_rich n 0;
+        unseen = refl;
       })
   targets-shown (inline (documents.anchor s) xs) before f e anchors keep normal =
       let good = normal-one false [] (documents.anchor s) xs normal in
@@ -102,6 +111,7 @@ module _ (scripting is_rich : Bool) where
       ∙ none-shown scripting is_rich None))))
       (record {
         sound = sound-place s xs found.id ts one_line is_id rest.sound;
+        led = place-led found.id s ts one_line is_id rest.led;
         spent = spend-more 0 (weight_among xs) tree ts
             (spend-element 0 found.id role.Target (facts_of none) pairs none refl spend-none) rest.spent;
         wait = λ ids. rest.wait (ids ++ own_id tree)
@@ -109,6 +119,7 @@ module _ (scripting is_rich : Bool) where
         nothing = λ n ids.
             target-parts is_rich n found.id (facts_of none) pairs (local_all (ids ++ own_id tree) ts)
             ∙ rest.nothing n (ids ++ own_id tree);
+        unseen = rest.unseen;
       })
   targets-shown (inline (documents.text s) xs) before f e anchors keep normal = false-true anchors
   targets-shown (inline (documents.code s) xs) before f e anchors keep normal = false-true anchors
@@ -167,12 +178,6 @@ before-blocks is_end (documents.table alignments header rows) bs = refl
 before-blocks is_end (documents.element name attributes content) bs = refl
 before-blocks is_end (documents.tags s) bs = refl
 
--- of these nothing is said
-alone-heavy : (xs : Inlines) (d : Blocks) → are_anchors xs ≡ true → are_thin (block (paragraph xs) d) ≡ false
-alone-heavy xs d h =
-    ap (λ b. (not (has_task xs) && not b) && are_thin d) h
-    ∙ ap (λ b. b && are_thin d) (and-false (not (has_task xs)))
-
 module _ (scripting is_rich : Bool) (is_end : Bool) (before : Option (List AttributePair)) (f rest : NumberedForest)
     (n at id : ℕ) (xs : Inlines) (content : Simples) (anchors : are_anchors xs ≡ true)
     (some : has_none xs ≡ false)
@@ -204,6 +209,20 @@ module _ (scripting is_rich : Bool) (is_end : Bool) (before : Option (List Attri
       (spend-element (weight_among xs) id role.Paragraph (facts_of content) [] content refl own.spent)
       (spend-past (weight_in d) (text (line_feed ∷ [])) ts (spend-text (line_feed ∷ [])) later))
 
+  alone-trees : (d : Blocks) → AreLeanTrees is_rich d ts
+      → AreLeanTrees is_rich (block (paragraph xs) d) (shown_of scripting is_rich before f)
+  alone-trees d later =
+      subst (λ (us : Simples). AreLeanTrees is_rich (block (paragraph xs) d) us) (sym alone-is)
+      (alone-lean is_rich id xs d content ts anchors own.unseen later)
+
+  alone-first : (d : Blocks) → AreSound ts (lines_in d) → title_keeps (block (paragraph xs) d) ≡ true
+      → come_first (shown_of scripting is_rich before f) ≡ true
+  alone-first d sound h =
+      let p = and_parts (heading_keeps (behind_box xs)) (blocks_have_no_anchors d) h in
+      ap come_first alone-is
+      ∙ first-behind tree (more (text (line_feed ∷ [])) ts) (led-first content own.led)
+      (plain-nameless ts (lines_in d) sound (none-in-blocks d p.1))
+
   -- what it gives: nothing, and its anchors wait
   alone-in : (parts : Simples → List Part) → AreParts parts
       → ((c us : Simples) → parts (more (element id role.Paragraph (facts_of content) [] c) us)
@@ -232,11 +251,13 @@ module _ (scripting is_rich : Bool) (is_end : Bool) (before : Option (List Attri
   alone-gives =
       alone-in (parts_of is_rich n) (plain-parts is_rich n) (paragraph-parts is_rich n id (facts_of content))
 
-  -- in a `details`
-  pub alone-given : (d : Blocks) → stand_alone false d ≡ true → AreGiven (titled_of an.Summary is_rich n) ts d
-      → AreGiven (titled_of an.Summary is_rich n) (shown_of scripting is_rich before f) (block (paragraph xs) d)
-  alone-given d h later =
-      let parts : Simples → List Part = titled_of an.Summary is_rich n in
+  -- in a figure or a `details`
+  pub alone-given : (in_figure : Bool) (d : Blocks) → stand_alone false d ≡ true
+      → AreGiven (titled_of (title_of in_figure) is_rich n) ts d
+      → AreGiven (titled_of (title_of in_figure) is_rich n) (shown_of scripting is_rich before f)
+      (block (paragraph xs) d)
+  alone-given in_figure d h later =
+      let parts : Simples → List Part = titled_of (title_of in_figure) is_rich n in
       let ids : List (List ℕ) = ids_of_line xs in
       let next = later.led ids h in
       let v : List Block → Writing = λ done. fed (clean in_blocks done) (run (line_feed ∷ []) [] false) in
@@ -244,7 +265,7 @@ module _ (scripting is_rich : Bool) (is_end : Bool) (before : Option (List Attri
       ≡ apart (parts_of is_rich n c) ++ parts us =
       λ c us.
       let whole : Simple = element id role.Paragraph (facts_of content) [] c in
-      untitled-more is_rich n false whole us refl
+      untitled-more is_rich n in_figure whole us refl
       ∙ ap (λ ps. ps ++ parts us) (paragraph-parts is_rich n id (facts_of content) c none
       ∙ (ap (λ ps. apart (parts_of is_rich n c) ++ ps) (none-parts is_rich n 0)
       ∙ append-nil (apart (parts_of is_rich n c)))) in
@@ -253,10 +274,15 @@ module _ (scripting is_rich : Bool) (is_end : Bool) (before : Option (List Attri
             (sound-alone id (line_feed ∷ []) xs content ts (lines_in d) line-blank (later.begins h) own.sound
             later.sound);
         waits = alone-waits ∙ next.0;
+        shows = ap (show false) alone-is
+            ∙ (ap (λ x. x || show false (more (text (line_feed ∷ [])) ts)) own.unseen
+            ∙ (line-unseen false ts ∙ (later.shows ∙ sym (ap (λ x. not x || is_black d) anchors))));
+        first = alone-first d later.sound;
+        unseen = λ e. false-true e;
         spent = alone-spent d later.spent;
         ready = λ w done r.
             subst (λ (u : Writing). IsReady in_blocks u (done ++ paragraph xs ∷ list_in d))
-            (sym (alone-in parts (titled-parts is_rich n an.Summary) paragraphs in_blocks w done r))
+            (sym (alone-in parts (titled-parts is_rich n (title_of in_figure)) paragraphs in_blocks w done r))
             (subst (λ (bs : List Block). IsReady in_blocks (fed_all (v done) (parts (local_all ids ts)))
             (done ++ (bs ++ list_in d))) (some-alone xs anchors some)
             (next.1 (v done) done (line-ready in_blocks done refl)));
@@ -282,7 +308,9 @@ module _ (scripting is_rich : Bool) (is_end : Bool) (before : Option (List Attri
         waits = alone-waits ∙ next.0;
         spent = alone-spent d later.spent;
         paragraphs = ap (λ us. list_any (has is_paragraph) (list_of us)) alone-is;
-        lean = heavy-trees (alone-heavy xs d anchors);
+        lean = alone-trees d later.lean;
+        first = alone-first d later.sound;
+        unseen = λ e. false-true e;
         ready = λ mode w done r may.
             subst (λ (u : Writing). IsReady mode u (done ++ paragraph xs ∷ later.kept))
             (sym (alone-gives mode w done r))
@@ -313,7 +341,9 @@ module _ (scripting is_rich : Bool) (is_end : Bool) (before : Option (List Attri
         waits = alone-waits ∙ ap (pending_all ids) nothing;
         spent = alone-spent no_blocks later.spent;
         paragraphs = ap (λ us. list_any (has is_paragraph) (list_of us)) alone-is;
-        lean = heavy-trees (alone-heavy xs no_blocks anchors);
+        lean = alone-trees no_blocks later.lean;
+        first = alone-first no_blocks later.sound;
+        unseen = λ e. false-true e;
         ready = λ mode w done r may.
             subst (λ (u : Writing). IsReady mode u (done ++ []))
             (sym (alone-gives mode w done r

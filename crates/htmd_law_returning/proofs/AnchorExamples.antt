@@ -164,3 +164,9 @@ no_links : returned which.Linked (x ++ codes "a") ≡ document (codes "a")
 unfolding chars encode forest_from tree_of role_of table_role heading_or_block block_role inline_role element_role shown
     document_by document_of_tree node_of digits
 no_links = refl
+
+-- nor with a link to them in their own heading alone, which a page has whose heading is in a link
+own_link : returned which.Linked (codes "# " ++ x ++ codes "[a](#x)") ≡ document (codes "# [a](#x)")
+unfolding chars encode forest_from tree_of role_of table_role heading_or_block block_role inline_role element_role shown
+    document_by document_of_tree node_of digits percent_decode utf8_lossy utf8_valid_len is_utf8
+own_link = refl

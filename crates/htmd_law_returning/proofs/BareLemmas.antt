@@ -1,6 +1,6 @@
 -- Trees of texts and elements that no link leads to, in whose links all is joined: none of these is cut off.
 use Rattle.std.proofs.Common.{◌≡◌, Bool, true, false, not, ◌&&◌, ◌||◌, cond, List}
-use Rattle.std.proofs.Common.{[], codes}
+use Rattle.std.proofs.Common.{codes}
 use Rattle.std.proofs.Common.{refl, sym, ap, ◌∙◌}
 use Rattle.std.proofs.Common.{if◌then◌else◌}
 use Rattle.std.specs.Prelude.{nat_lt}

@@ -6,7 +6,7 @@ use Rattle.std.proofs.Common.{◌≤◌, length}
 use Rattle.std.specs.Prelude.{fold, nat_le}
 use Rattle.std.specs.List.{list_any}
 use Rattle.std.specs.Str.{chars, IsUtf8}
-use Rattle.std.proofs.lemmas.Bool.{and_parts}
+use Rattle.std.proofs.lemmas.Bool.{and_parts, and_from}
 use Rattle.std.proofs.lemmas.List.Sums.{fold-append}
 use Rattle.std.proofs.lemmas.List.Elements.{filter-append}
 use Rattle.std.proofs.lemmas.List.{length-append}
@@ -15,7 +15,7 @@ use Rattle.htmd_lexical.specs.CharacterClasses.{is_empty}
 use Rattle.htmd_lexical.specs.Characters.{line_feed}
 use Rattle.htmd_lexical.specs.AttributePairs.{AttributePair}
 use Rattle.htmd_values.specs.ValueTrees as value
-use Rattle.htmd_nodes.specs.NumberedTrees.{NumberedForest, value_forest}
+use Rattle.htmd_nodes.specs.NumberedTrees.{NumberedTree, NumberedForest, value_forest}
 use Rattle.htmd_nodes.specs.NumberedTrees as page
 use Rattle.htmd_document.specs.Documents.{text, code, formatted, link, image, anchor, line_break, task}
 use Rattle.htmd_document.specs.Documents.{Inlines, no_inlines, inline}
@@ -51,6 +51,7 @@ use Rattle.htmd_law_returning.proofs.LineFormLemmas.{normal-one, settled-one}
 use Rattle.htmd_law_returning.proofs.OrderLemmas.{is_ordered, ordered-next, ordered-less}
 use Rattle.htmd_law_returning.proofs.PageLemmas.{IsElement, from-text, from-element, IsFresh, fresh-next, shown_of}
 use Rattle.htmd_law_returning.proofs.PageLemmas.{line-shown, none-shown}
+use Rattle.htmd_law_returning.proofs.FarLinks.{are_far, is_far}
 use Rattle.htmd_law_returning.proofs.ShownInlines.{text-at, code-at, break-at, image-at, link-plain, format-at}
 use Rattle.htmd_law_returning.proofs.BreakLemmas.{some-text}
 use Rattle.htmd_law_returning.proofs.StandLemmas.{is_break, Stands, Lacks, beside, stands-behind, begins_filled}
@@ -358,8 +359,21 @@ module _ (scripting is_rich : Bool) where
     pub others : Stands (value_forest back) (forest_of rest)
     pub first_ordered : is_ordered k front ≡ true
     pub ordered : is_ordered 0 back ≡ true
+    pub far : are_far scripting is_rich false front ≡ true → are_far scripting is_rich false back ≡ true
+        → are_far scripting is_rich false f ≡ true
     pub extended : IsExtended is_rich n (shown_of scripting is_rich before f)
         (shown_of scripting is_rich before front) (shown_of scripting is_rich last back)
+
+  -- one more node before both
+  far-behind : (t : NumberedTree) (f rest front back : NumberedForest) → f ≡ page.more t rest
+      → (are_far scripting is_rich false front ≡ true → are_far scripting is_rich false back ≡ true
+      → are_far scripting is_rich false rest ≡ true)
+      → are_far scripting is_rich false (page.more t front) ≡ true → are_far scripting is_rich false back ≡ true
+      → are_far scripting is_rich false f ≡ true
+  far-behind t f rest front back is inner h e =
+      let p = and_parts (is_far scripting is_rich false t) (are_far scripting is_rich false front) h in
+      ap (are_far scripting is_rich false) is
+      ∙ and_from (is_far scripting is_rich false t) (are_far scripting is_rich false rest) p.0 (inner p.1 e)
 
   steady-filled : (ts : SpelledForest) → AreSteady ts → begins_filled ts ≡ true
   steady-filled ts no_trees = refl
@@ -398,6 +412,8 @@ module _ (scripting is_rich : Bool) where
         first_ordered = ap (λ b. (b && is_ordered 0 found.inside) && is_ordered (suc found.id) inner.front) least
             ∙ (ap (λ b. b && is_ordered (suc found.id) inner.front) inside ∙ inner.first_ordered);
         ordered = inner.ordered;
+        far = far-behind (page.element found.id (codes "br") [] found.inside) f found.rest inner.front inner.back
+            found.is inner.far;
         extended = from-shown is_rich n (shown_of scripting is_rich before f)
             (shown_of scripting is_rich before front) (shown_of scripting is_rich inner.last inner.back)
             (ap (shown_of scripting is_rich before) found.is
@@ -425,6 +441,7 @@ module _ (scripting is_rich : Bool) where
         others = found.others;
         first_ordered = refl;
         ordered = ordered-less 0 (suc found.id) found.rest (omega arith) order.rest;
+        far = λ h e. ap (are_far scripting is_rich false) found.is ∙ e;
         extended = from-shown is_rich n (shown_of scripting is_rich before f)
             (shown_of scripting is_rich before page.none) ts
             (ap (shown_of scripting is_rich before) found.is
@@ -444,6 +461,7 @@ module _ (scripting is_rich : Bool) where
         others = found.others;
         first_ordered = ap (λ b. (b && true) && true) order.least;
         ordered = ordered-less 0 (suc found.id) found.rest (omega arith) order.rest;
+        far = λ h e. ap (are_far scripting is_rich false) found.is ∙ e;
         extended = from-shown is_rich n (shown_of scripting is_rich before f)
             (shown_of scripting is_rich before (page.more (page.text found.id s) page.none)) ts
             (ap (shown_of scripting is_rich before) found.is
@@ -470,6 +488,7 @@ module _ (scripting is_rich : Bool) where
         first_ordered = ap (λ b. (b && true) && is_ordered (suc found.id) inner.front) order.least
             ∙ inner.first_ordered;
         ordered = inner.ordered;
+        far = far-behind (page.text found.id s) f found.rest inner.front inner.back found.is inner.far;
         extended = from-shown is_rich n (shown_of scripting is_rich before f)
             (shown_of scripting is_rich before (page.more (page.text found.id s) inner.front))
             (shown_of scripting is_rich inner.last inner.back)
@@ -503,6 +522,8 @@ module _ (scripting is_rich : Bool) where
         first_ordered = ap (λ b. (b && is_ordered 0 found.inside) && is_ordered (suc found.id) inner.front) order.least
             ∙ (ap (λ b. b && is_ordered (suc found.id) inner.front) order.inside ∙ inner.first_ordered);
         ordered = inner.ordered;
+        far = far-behind (page.element found.id name attributes found.inside) f found.rest inner.front inner.back
+            found.is inner.far;
         extended = from-shown is_rich n (shown_of scripting is_rich before f)
             (shown_of scripting is_rich before front) (shown_of scripting is_rich inner.last inner.back)
             (ap (shown_of scripting is_rich before) found.is ∙ own.is before found.id found.inside found.rest fresh)

@@ -1,12 +1,11 @@
 -- Each block of a normal and settled document comes back, by its structure.
 use Rattle.std.proofs.Common.{◌≡◌, ℕ, suc, ◌+◌, ◌≤◌, Bool, true, false, ◌&&◌, List, ◌∷◌, refl, sym, ap, ◌∙◌, subst}
-use Rattle.std.proofs.Common.{arith, codes, Option, Some, None, not, ◌||◌, ◌<◌, []}
-use Rattle.std.specs.List.{list_all, list_any}
+use Rattle.std.proofs.Common.{arith, codes, Option, Some, None, ◌||◌, ◌<◌, []}
+use Rattle.std.specs.List.{list_all}
 use Rattle.std.proofs.lemmas.Bool.{and_parts}
 use Rattle.std.proofs.lemmas.Bool.Decides.{nat_tests}
 use Rattle.htmd_lexical.specs.Characters.{line_feed}
 use Rattle.htmd_lexical.specs.AttributePairs.{AttributePair}
-use Rattle.htmd_values.specs.ValueTrees as value
 use Rattle.htmd_nodes.specs.NumberedTrees.{NumberedForest, value_forest}
 use Rattle.htmd_nodes.specs.NumberedTrees as page
 use Rattle.htmd_document.specs.DocumentLimits.{most_nested}
@@ -23,8 +22,7 @@ use Rattle.htmd_law_returning.specs.SettledDocuments.{is_settled_block, are_sett
 use Rattle.htmd_law_returning.specs.SettledDocuments.{weight_of_block, are_settled_items, numbers_fit}
 use Rattle.htmd_law_returning.specs.SettledDocuments.{block_numbers_fit, item_numbers_fit, is_right_list}
 use Rattle.htmd_law_returning.specs.SettledDocuments.{weight_of_items, is_open_at_most, are_settled_in}
-use Rattle.htmd_law_returning.specs.SettledDocuments.{has_filled_element, is_title, are_in_figure, has_caption}
-use Rattle.htmd_law_returning.specs.SettledDocuments.{is_caption, is_of_figure}
+use Rattle.htmd_law_returning.specs.SettledDocuments.{has_filled_element, blocks_are_away, has_caption}
 use Rattle.htmd_law_returning.proofs.OpenLemmas.{open-kept}
 use Rattle.htmd_law_returning.proofs.TaskLemmas.{unboxed, may-always}
 use Rattle.htmd_document.specs.declared.document.BlockElement.TheVariants as an
@@ -35,16 +33,19 @@ use Rattle.htmd_law_returning.specs.PageFormats.{block_shows, formats_show, item
 use Rattle.htmd_law_returning.proofs.InlineLemmas.{left-light, right-light}
 use Rattle.htmd_law_returning.proofs.StandLemmas.{Stands}
 use Rattle.htmd_law_returning.proofs.BlockTrees.{trees_in, trees_of_items, item_trees, spelled_in, behind_first}
-use Rattle.htmd_law_returning.proofs.BlockTrees.{cut_block, cut_blocks, cut_items, spelled_element}
+use Rattle.htmd_law_returning.proofs.BlockTrees.{cut_block, cut_blocks, cut_items, spelled_element, table_parts}
 use Rattle.htmd_law_returning.proofs.StartLemmas.{false-true, begins_boxed, in_blocks}
-use Rattle.htmd_law_returning.proofs.CellLemmas.{cell-plain, header-plain, cells-long}
-use Rattle.htmd_law_returning.proofs.TablePartLemmas.{table-first, one-row, one-cell, none-rows, none-cells, HasRows}
-use Rattle.htmd_law_returning.proofs.TablePartLemmas.{HasCells, cell-returned, table-trees, row-trees}
-use Rattle.htmd_law_returning.proofs.ElementForms.{rows-alone, in-alone, meaning-plain, terms-long}
-use Rattle.htmd_law_returning.proofs.ElementTables.{rows-filled}
-use Rattle.htmd_law_returning.proofs.LeanTrees.{line-lean}
-use Rattle.htmd_flow.specs.TableElements as elements
-use Rattle.htmd_law_returning.specs.SettledTables.{is_border_at_most, are_rows_of_element, rows_in, cells_in, is_lean}
+use Rattle.htmd_law_returning.proofs.TableCaptions.{caption-known, caption-left}
+use Rattle.htmd_law_returning.proofs.TablePartLemmas.{table-first, one-row, one-cell, none-rows, none-cells}
+use Rattle.htmd_law_returning.proofs.TablePartLemmas.{HasRows, HasCells, cell-returned, table-trees, HasTable}
+use Rattle.htmd_law_returning.proofs.TablePartLemmas.{nothing-left, section-left, table_trees, section-trees}
+use Rattle.htmd_law_returning.proofs.TablePartLemmas.{row_trees, after_trees, more-rows-trees, after-row-trees}
+use Rattle.htmd_law_returning.proofs.TablePartLemmas.{no-rows-trees, after-caption-trees}
+use Rattle.htmd_law_returning.proofs.ElementForms.{parts-alone, in-alone, flow-plain, terms-long}
+use Rattle.htmd_law_returning.proofs.FirstTargets.{line-first, line-seen-none}
+use Rattle.htmd_law_returning.proofs.LeanTrees.{line-lean, black-filled}
+use Rattle.htmd_law_returning.specs.SettledTables.{is_border_at_most, are_rows_of_element, rows_in, end_at_captions}
+use Rattle.htmd_law_returning.proofs.TableContents.{rows_first, behind_rows, rows-split, rows-are, none-begins}
 use Rattle.htmd_law_returning.proofs.PageLemmas.{line_before, from-block, block-order, from-none, from-text, IsFresh}
 use Rattle.htmd_law_returning.proofs.PageLemmas.{fresh-first, fresh-next, shown_of, line-shown, quote-shown}
 use Rattle.htmd_law_returning.proofs.PageLemmas.{none-shown, details-shown, item-shown}
@@ -58,17 +59,19 @@ use Rattle.htmd_law_returning.proofs.ReturnedBlocks.{none-left, all-ready, list_
 use Rattle.htmd_law_returning.proofs.ReturnedBlocks.{none-returned, behind, first-one, IsFirst}
 use Rattle.htmd_law_returning.proofs.ItemBlocks.{IsContent, item-content}
 use Rattle.htmd_lexical.proofs.Cases.{test}
-use Rattle.htmd_law_returning.specs.LastingAnchors.{lines_in, is_alone, blocks_keep, items_keep, title_keeps}
-use Rattle.htmd_law_returning.specs.LastingAnchors.{block_keeps, stand_alone}
+use Rattle.htmd_law_returning.specs.LastingAnchors.{lines_in, title_keeps}
+use Rattle.htmd_document.specs.LoneAnchors.{is_alone}
+use Rattle.htmd_law_returning.proofs.KeptBlocks.{blocks_keep, items_keep}
 use Rattle.htmd_law_returning.proofs.SoundNodes.{sound-text}
 use Rattle.htmd_law_returning.proofs.KindLemmas.{line-waits}
 use Rattle.htmd_law_returning.proofs.ElementTrees.{cut-text}
-use Rattle.htmd_law_returning.proofs.InsideLemmas.{inside_trees, element-trees, inside-returned, title-inside}
+use Rattle.htmd_law_returning.proofs.InsideLemmas.{inside_trees, element-trees, inside-returned}
+use Rattle.htmd_law_returning.proofs.TitleLemmas.{title-inside}
 use Rattle.htmd_law_returning.proofs.ShownInlines.{shown_at}
 use Rattle.htmd_law_returning.proofs.ReadyLemmas.{parts_of}
 use Rattle.htmd_law_returning.proofs.ElementShown.{terms-shown, term-shown, meaning-shown, summary-shown}
-use Rattle.htmd_law_returning.proofs.FigureLemmas.{AreInFigure, figure-none, figure-first, lean-other}
-use Rattle.htmd_law_returning.proofs.FigureBlocks.{figure-one, caption-one}
+use Rattle.htmd_law_returning.proofs.FigureLemmas.{AreInFigure, figure-none, figure-first}
+use Rattle.htmd_law_returning.proofs.FigureBlocks.{figure-one, caption-one, alone-in-figure}
 use Rattle.htmd_law_returning.proofs.GivenBlocks.{AreGiven, plain-parts, titled-parts, given-none, given-first}
 use Rattle.htmd_law_returning.proofs.GivenBlocks.{given-title, returned-given}
 use Rattle.htmd_law_returning.proofs.DescriptionLemmas.{AreDescribed, described-none, described-term}
@@ -167,9 +170,11 @@ module _ (scripting is_rich : Bool) where
         ∙ ap (λ us. more (made own.id role.BlockQuote [] us) after) content))
         (quote-gives is_rich n own.id (more (text (line_feed ∷ [])) ts) seen
         (grind (arith, nat_tests, fits)) good.0
+        (black-filled seen (and_parts (blocks_keep false seen) true keep).0 ∙ good.0)
         (sound-text (line_feed ∷ []) ts (lines_in seen) within.sound)
         (spend-past (weight_in seen) (text (line_feed ∷ [])) ts (spend-text (line_feed ∷ [])) within.spent)
-        (line-lean seen ts within.lean)
+        (line-lean is_rich seen ts within.lean) (λ k. line-first ts ∙ within.first k)
+        (λ k. line-seen-none ts ∙ within.unseen k)
         (line-waits ts ∙ none-left scripting is_rich None inner.rest (suc n) seen within)
         (blocks-inside is_rich (suc n) ts (list_in seen)
         (λ w h. all-ready scripting is_rich None inner.rest (suc n) seen within in_blocks w [] h
@@ -212,7 +217,7 @@ module _ (scripting is_rich : Bool) where
         (titled-parts is_rich n an.Summary) all own.inside
         (subst (λ t. Stands (value_forest own.inside) (inside_trees t (trees_in all))) (sym (cut-text all)) own.within)
         (in-alone an.Details seen good.1) rich.1 form.1 light order.0
-        (λ g h j p. titled-returned all None g n fresh-first h good.1 own_keep rich.1 form.1 fits numbers
+        (λ g h j p. titled-returned all rich.0 None g n fresh-first h good.1 own_keep rich.1 form.1 fits numbers
         plain light j p) in
         first-one scripting is_rich before f own.rest n own.line (made own.id role.Details pairs content) pairs
         (documents.element an.Details attributes seen) d
@@ -222,7 +227,9 @@ module _ (scripting is_rich : Bool) where
         (subst (λ kept. GivesBlock is_rich n (made own.id role.Details pairs content)
         (documents.element an.Details kept seen)) own_pairs.kept
         (details-gives is_rich n own.id pairs content seen rich.0 own_pairs.nameless
-        (or-false (is_filled seen) filled) within.sound within.spent within.waits within.written.gives))
+        (or-false (is_filled seen) filled) within.sound within.spent within.waits
+        (within.shows ∙ (black-filled seen own_keep ∙ or-false (is_filled seen) filled)) within.first within.unseen
+        within.written.gives))
         own.others (suc own.line) order.1
     one-returned (documents.element an.Terms [] all) d b is_end before f n fresh e settled keep formats normal fits
         numbers plain light k
@@ -259,28 +266,30 @@ module _ (scripting is_rich : Bool) where
         fits numbers plain light k o other =
         let seen : documents.Blocks = cut_blocks all in
         let shape : Bool = are_rows_of_element attributes (rows_in None seen) in
-        let good = and_parts (is_border_at_most attributes && shape) (are_settled_in an.Table seen) settled in
-        let frame = and_parts (is_border_at_most attributes) shape good.0 in
+        let place : Bool = end_at_captions (rows_in None seen) in
+        let good = and_parts (is_border_at_most attributes && (place && shape)) (are_settled_in an.Table seen)
+        settled in
+        let both = and_parts (is_border_at_most attributes) (place && shape) good.0 in
+        let form_of = and_parts place shape both.1 in
         let rich = and_parts is_rich (formats_show is_rich seen) formats in
         let form = and_parts (is_normal_element an.Table attributes seen) (are_normal_blocks false seen) normal in
         let own_keep = kept-inside seen keep in
         let filled = or-false (is_filled seen)
         (and_parts (list_all (λ a. is_attribute a.value) attributes) (is_filled seen || false) form.0).1 in
-        table-first scripting is_rich n attributes seen d (trees_in all) before f k
-        (subst (Stands (value_forest f)) (table-trees attributes all d (rows-alone seen good.1) filled) e)
-        rich.0 frame.0 frame.1 filled good.1 o
-        (λ g h j p. rows-returned all None g n fresh-first h good.1 own_keep rich.1 form.1 fits numbers plain light
-        (rows-filled attributes seen frame.1) j p)
+        table-first scripting is_rich n attributes seen d (table_trees all) before f k
+        (subst (Stands (value_forest f)) (table-trees attributes all d (parts-alone seen good.1) filled) e)
+        rich.0 both.0 form_of.0 form_of.1 good.1 o
+        (λ g h j p. table-returned all None g n fresh-first h good.1 own_keep rich.1 form.1 fits numbers
+        plain light j p)
     one-returned (documents.element an.Figure [] all) d b is_end before f n fresh e settled keep formats normal fits
         numbers plain light k o other =
         let seen : documents.Blocks = cut_blocks all in
         let own_keep = kept-inside seen keep in
-        let good = and_parts (are_in_figure seen && has_caption seen) (are_settled_in an.Figure seen) settled in
-        let some = and_parts (are_in_figure seen) (has_caption seen) good.0 in
+        let good = and_parts (has_caption seen) (are_settled_in an.Figure seen) settled in
         let rich = and_parts is_rich (formats_show is_rich seen) formats in
         let form = and_parts (is_normal_element an.Figure [] seen) (are_normal_blocks false seen) normal in
-        figure-one scripting is_rich n all d before f k fresh e rich.0 some.1 (or-false (is_filled seen) form.0) o
-        (λ g h j p. figure-returned all None g n fresh-first h some.0 good.1 own_keep rich.1 form.1 fits numbers plain
+        figure-one scripting is_rich n all d before f k fresh e rich.0 good.0 (or-false (is_filled seen) form.0) o
+        (λ g h j p. figure-returned all rich.0 None g n fresh-first h good.1 own_keep rich.1 form.1 fits numbers plain
         light j p)
     one-returned (documents.element name attributes content) d b is_end before f n fresh e settled keep formats normal
         fits numbers
@@ -292,7 +301,8 @@ module _ (scripting is_rich : Bool) where
         false-true settled
 
     -- what stands in a `details`
-    titled-returned : (d : documents.Blocks) (before : Option (List AttributePair)) (f : NumberedForest) (n : ℕ)
+    titled-returned : (d : documents.Blocks) → is_rich ≡ true → (before : Option (List AttributePair))
+        (f : NumberedForest) (n : ℕ)
         → IsFresh before → Stands (value_forest f) (trees_in d) → are_settled_in an.Details (cut_blocks d)
         ≡ true
         → blocks_keep false (cut_blocks d) ≡ true
@@ -302,23 +312,25 @@ module _ (scripting is_rich : Bool) where
         → weight_in (cut_blocks d) < greatest_count
         → (k : ℕ) → is_ordered k f ≡ true
         → AreGiven (titled_of an.Summary is_rich n) (shown_of scripting is_rich before f) (cut_blocks d)
-    titled-returned documents.no_blocks before f n fresh e settled keep formats normal fits numbers plain light k
+    titled-returned documents.no_blocks rich before f n fresh e settled keep formats normal fits numbers plain light k
         o =
         subst (λ (ts : Simples). AreGiven (titled_of an.Summary is_rich n) ts documents.no_blocks)
         (sym (ap (shown_of scripting is_rich before) (from-none f e) ∙ none-shown scripting is_rich before))
         (given-none (titled_of an.Summary is_rich n) (titled-parts is_rich n an.Summary))
-    titled-returned (documents.block (documents.element an.Summary [] all) d) before f n fresh e settled keep
+    titled-returned (documents.block (documents.element an.Summary [] all) d) rich before f n fresh e settled keep
         formats normal
         fits numbers plain light k o =
         let seen : documents.Blocks = cut_blocks all in
         let rest : documents.Blocks = cut_blocks d in
-        let parts = and_parts (is_title seen && are_settled_in an.Summary seen)
+        let parts = and_parts (blocks_are_away seen && are_settled_in an.Summary seen)
         (are_settled_in an.Details rest) settled in
-        let own_parts = and_parts (is_title seen) (are_settled_in an.Summary seen) parts.0 in
+        let own_parts = and_parts (blocks_are_away seen) (are_settled_in an.Summary seen) parts.0 in
         let keeps = and_parts ((blocks_keep false seen && title_keeps seen) && true) (blocks_keep false rest) keep in
         let own_keep = and_parts (blocks_keep false seen) (title_keeps seen)
         (and_parts (blocks_keep false seen && title_keeps seen) true keeps.0).0 in
         let shows = and_parts (is_rich && formats_show is_rich seen) (formats_show is_rich rest) formats in
+        let own_shows = (and_parts is_rich (formats_show is_rich seen) shows.0).1 in
+        let lighter = left-light (weight_in seen) (weight_in rest) light in
         let good = and_parts (is_normal_block false (documents.element an.Summary [] seen))
         (are_normal_blocks false rest)
         normal in
@@ -331,10 +343,12 @@ module _ (scripting is_rich : Bool) where
         let order = block-order k f own.id (codes "summary") [] own.inside own.line own.rest own.is o in
         let content : Simples = shown_at scripting is_rich true None own.inside in
         let within = title-inside scripting is_rich n all own.inside own.within
-        own_parts.0 (in-alone an.Summary seen own_parts.1) own_keep.0
-        (and_parts is_rich (formats_show is_rich seen) shows.0).1
-        form.1 (left-light (weight_in seen) (weight_in rest) light) order.0 in
-        let later = titled-returned d (Some []) own.rest n (fresh-next []) own.others parts.1 keeps.1 shows.1
+        own_parts.0 (in-alone an.Summary seen own_parts.1) own_keep.0 own_shows form.1 lighter order.0
+        (λ g h j p. returned-given scripting is_rich None g n seen rich (unboxed seen form.1)
+        (returned all false false None g n fresh-first h (sym (flow-plain an.Summary refl seen) ∙ own_parts.1)
+        own_keep.0 own_shows form.1 (left-fits (depth_among seen) (depth_among rest) n most_nested fits) low.0 free.0
+        lighter j p)) in
+        let later = titled-returned d rich (Some []) own.rest n (fresh-next []) own.others parts.1 keeps.1 shows.1
         good.1
         (right-fits (depth_among seen) (depth_among rest) n most_nested fits) low.1 free.1
         (right-light (weight_in seen) (weight_in rest) light) (suc own.line) order.1 in
@@ -346,8 +360,10 @@ module _ (scripting is_rich : Bool) where
         ∙ ap (more (made own.id role.Summary [] content)) (line-shown scripting is_rich
         (Some []) own.line own.rest))))
         (given-title is_rich false n own.id content ts seen rest (or-false (is_filled seen) form.0) within.inside.sound
-        (within.first own_keep.1) within.inside.waits within.inside.spent within.inside.written.gives later)
-    titled-returned (documents.block b d) before f n fresh e settled keep formats normal fits numbers plain light
+        (within.first own_keep.1) within.inside.waits
+        (within.inside.shows ∙ (black-filled seen own_keep.0 ∙ or-false (is_filled seen) form.0))
+        within.inside.unseen within.inside.spent within.inside.written.gives later)
+    titled-returned (documents.block b d) rich before f n fresh e settled keep formats normal fits numbers plain light
         k o =
         let own : documents.Block = cut_block b in
         let rest : documents.Blocks = cut_blocks d in
@@ -360,47 +376,133 @@ module _ (scripting is_rich : Bool) where
         let later : (attributes : List AttributePair) (g : NumberedForest) → Stands (value_forest g) (trees_in d)
         → (k : ℕ) → is_ordered k g ≡ true
         → AreGiven (titled_of an.Summary is_rich n) (shown_of scripting is_rich (Some attributes) g) rest =
-        λ attributes g h j p. titled-returned d (Some attributes) g n (fresh-next attributes) h parts.1 keeps.1 shows.1
-        good.1 (right-fits (depth_of own) (depth_among rest) n most_nested fits) low.1 free.1
+        λ attributes g h j p. titled-returned d rich (Some attributes) g n (fresh-next attributes) h parts.1 keeps.1
+        shows.1 good.1 (right-fits (depth_of own) (depth_among rest) n most_nested fits) low.1 free.1
         (right-light (weight_of_block own) (weight_in rest) light) j p in
         test (is_alone own)
-        (λ alone. alone-titled scripting is_rich b d before f n fresh e alone keeps.0 good.0 k o (later []))
+        (λ alone. alone-titled scripting is_rich false b d before f n fresh e alone keeps.0 good.0 k o (later []))
         (λ other.
         let first = one-returned b d false false before f n fresh e parts.0 keeps.0 shows.0 good.0
         (left-fits (depth_of own) (depth_among rest) n most_nested fits) low.0 free.0
         (left-light (weight_of_block own) (weight_in rest) light) k o other in
-        given-first scripting is_rich false before f n own d rest (unboxed (documents.block own rest) normal) first
+        given-first scripting is_rich false before f n own d rest rich (unboxed (documents.block own rest) normal) first
         (later first.attributes first.rest first.others first.number first.ordered))
 
-    -- the rows of a table
-    rows-returned : (d : documents.Blocks) (before : Option (List AttributePair)) (f : NumberedForest) (n : ℕ)
-        → IsFresh before → Stands (value_forest f) (trees_in d) → are_settled_in an.Table (cut_blocks d) ≡ true
+    -- the captions of a table, and its rows
+    table-returned : (d : documents.Blocks) (before : Option (List AttributePair)) (f : NumberedForest) (n : ℕ)
+        → IsFresh before → Stands (value_forest f) (table_trees d)
+        → are_settled_in an.Table (cut_blocks d) ≡ true
         → blocks_keep false (cut_blocks d) ≡ true
         → formats_show is_rich (cut_blocks d) ≡ true → are_normal_blocks false (cut_blocks d) ≡ true
         → depth_among (cut_blocks d) + n ≤ most_nested
         → numbers_fit n (cut_blocks d) ≡ true → (is_rich && have_odd_tables d) ≡ false
         → weight_in (cut_blocks d) < greatest_count
-        → list_all elements.is_filled_piece (rows_in None (cut_blocks d)) ≡ true
-        → (k : ℕ) → is_ordered k f ≡ true → HasRows scripting is_rich n (cut_blocks d) before f
-    rows-returned documents.no_blocks before f n fresh e settled keep formats normal fits numbers plain light filled
+        → (k : ℕ) → is_ordered k f ≡ true → HasTable scripting is_rich n (cut_blocks d) before f
+    table-returned documents.no_blocks before f n fresh e settled keep formats normal fits numbers plain light
         k o =
-        none-rows scripting is_rich n before f e
-    rows-returned (documents.block (documents.element an.Row [] all) d) before f n fresh e settled keep formats
-        normal fits numbers plain light filled k o =
+        nothing-left scripting is_rich n before f e
+    table-returned (documents.block (documents.element an.Caption [] all) d) before f n fresh e settled keep formats
+        normal fits numbers plain light k o =
+        let seen : documents.Blocks = cut_blocks all in
+        let own = caption-known is_rich n all d settled keep formats normal fits numbers plain light in
+        caption-left scripting is_rich n all d before f k fresh e own.title
+        (in-alone an.Caption seen own.settled) own.keep own.led own.shows own.form own.filled own.light o
+        (λ g h j p. returned-given scripting is_rich None g n seen own.rich (unboxed seen own.form)
+        (returned all false false None g n fresh-first h (sym (flow-plain an.Caption refl seen) ∙ own.settled)
+        own.keep own.shows own.form own.fits own.low own.free own.light j p))
+        (λ g h j p. table-returned d (Some []) g n (fresh-next []) h own.others_settled own.others_keep
+        own.others_show own.others_form own.others_fit own.others_low own.others_free own.others_light j p)
+    table-returned (documents.block (documents.element an.Row [] all) d) before f n fresh e settled keep
+        formats normal fits numbers plain light k o =
         let seen : documents.Blocks = cut_blocks all in
         let rest : documents.Blocks = cut_blocks d in
         let parts = and_parts (are_settled_in an.Row seen) (are_settled_in an.Table rest) settled in
         let known = part-known is_rich n an.Row [] all d keep formats normal fits numbers plain light in
-        let some = and_parts (list_any elements.is_filled_cell (cells_in seen))
-        (list_all elements.is_filled_piece (rows_in None rest)) filled in
-        one-row scripting is_rich n seen rest (trees_in all) (trees_in d) before f k fresh
-        (subst (Stands (value_forest f)) (row-trees all d (cells-long seen some.0)) e) o
+        subst (λ (c : documents.Blocks). HasTable scripting is_rich n
+        (documents.block (documents.element an.Row [] seen) c) before f) (rows-split rest)
+        (section-left scripting is_rich n (documents.block (documents.element an.Row [] seen) (rows_first rest))
+        (behind_rows rest) (forest_of (spelled_element an.Row [] (text_in_line all) (spelled_in all)
+        (table_parts (spelled_in d)).rows)) (after_trees d) before f k fresh
+        (subst (Stands (value_forest f)) (section-trees [] all d) e) (rows-are rest) (none-begins rest parts.1) o
+        (λ i q m r. one-row scripting is_rich n all (rows_first rest) (table_parts (spelled_in d)).rows None i m
+        fresh-first q parts.0 r
         (λ g h j p. cells-returned all None g n h parts.0 known.keep known.shows known.form known.fits known.low
         known.free known.light j p)
         (λ g h j p. rows-returned d (Some []) g n (fresh-next []) h parts.1 known.others_keep known.others_show
-        known.others_form known.others_fit known.others_low known.others_free known.others_light some.1 j p)
+        known.others_form known.others_fit known.others_low known.others_free known.others_light j p))
+        (λ g h j p. after-returned d (Some []) g n (fresh-next []) h parts.1 known.others_keep known.others_show
+        known.others_form known.others_fit known.others_low known.others_free known.others_light j p))
+    table-returned (documents.block b d) before f n fresh e settled keep formats normal fits numbers plain
+        light k o =
+        false-true settled
+
+    -- what stands in a table behind the rows up to a caption
+    after-returned : (d : documents.Blocks) (before : Option (List AttributePair)) (f : NumberedForest) (n : ℕ)
+        → IsFresh before → Stands (value_forest f) (after_trees d)
+        → are_settled_in an.Table (cut_blocks d) ≡ true
+        → blocks_keep false (cut_blocks d) ≡ true
+        → formats_show is_rich (cut_blocks d) ≡ true → are_normal_blocks false (cut_blocks d) ≡ true
+        → depth_among (cut_blocks d) + n ≤ most_nested
+        → numbers_fit n (cut_blocks d) ≡ true → (is_rich && have_odd_tables d) ≡ false
+        → weight_in (cut_blocks d) < greatest_count
+        → (k : ℕ) → is_ordered k f ≡ true → HasTable scripting is_rich n (behind_rows (cut_blocks d)) before f
+    after-returned documents.no_blocks before f n fresh e settled keep formats normal fits numbers plain light
+        k o =
+        nothing-left scripting is_rich n before f e
+    after-returned (documents.block (documents.element an.Caption [] all) d) before f n fresh e settled keep formats
+        normal fits numbers plain light k o =
+        let seen : documents.Blocks = cut_blocks all in
+        let own = caption-known is_rich n all d settled keep formats normal fits numbers plain light in
+        caption-left scripting is_rich n all d before f k fresh
+        (subst (Stands (value_forest f)) (after-caption-trees [] all d) e) own.title
+        (in-alone an.Caption seen own.settled) own.keep own.led own.shows own.form own.filled own.light o
+        (λ g h j p. returned-given scripting is_rich None g n seen own.rich (unboxed seen own.form)
+        (returned all false false None g n fresh-first h (sym (flow-plain an.Caption refl seen) ∙ own.settled)
+        own.keep own.shows own.form own.fits own.low own.free own.light j p))
+        (λ g h j p. table-returned d (Some []) g n (fresh-next []) h own.others_settled own.others_keep
+        own.others_show own.others_form own.others_fit own.others_low own.others_free own.others_light j p)
+    after-returned (documents.block (documents.element an.Row [] all) d) before f n fresh e settled keep
+        formats normal fits numbers plain light k o =
+        let parts = and_parts (are_settled_in an.Row (cut_blocks all)) (are_settled_in an.Table (cut_blocks d))
+        settled in
+        let known = part-known is_rich n an.Row [] all d keep formats normal fits numbers plain light in
+        after-returned d before f n fresh (subst (Stands (value_forest f)) (after-row-trees [] all d) e) parts.1
+        known.others_keep known.others_show known.others_form known.others_fit known.others_low known.others_free
+        known.others_light k o
+    after-returned (documents.block b d) before f n fresh e settled keep formats normal fits numbers plain
+        light k o =
+        false-true settled
+
+    -- the rows of a table
+    rows-returned : (d : documents.Blocks) (before : Option (List AttributePair)) (f : NumberedForest) (n : ℕ)
+        → IsFresh before → Stands (value_forest f) (row_trees d)
+        → are_settled_in an.Table (cut_blocks d) ≡ true
+        → blocks_keep false (cut_blocks d) ≡ true
+        → formats_show is_rich (cut_blocks d) ≡ true → are_normal_blocks false (cut_blocks d) ≡ true
+        → depth_among (cut_blocks d) + n ≤ most_nested
+        → numbers_fit n (cut_blocks d) ≡ true → (is_rich && have_odd_tables d) ≡ false
+        → weight_in (cut_blocks d) < greatest_count
+        → (k : ℕ) → is_ordered k f ≡ true → HasRows scripting is_rich n (rows_first (cut_blocks d)) before f
+    rows-returned documents.no_blocks before f n fresh e settled keep formats normal fits numbers plain light
+        k o =
+        none-rows scripting is_rich n before f e
+    rows-returned (documents.block (documents.element an.Row [] all) d) before f n fresh e settled keep formats
+        normal fits numbers plain light k o =
+        let seen : documents.Blocks = cut_blocks all in
+        let rest : documents.Blocks = cut_blocks d in
+        let parts = and_parts (are_settled_in an.Row seen) (are_settled_in an.Table rest) settled in
+        let known = part-known is_rich n an.Row [] all d keep formats normal fits numbers plain light in
+        one-row scripting is_rich n all (rows_first rest) (table_parts (spelled_in d)).rows before f k fresh
+        (subst (Stands (value_forest f)) (more-rows-trees [] all d) e) parts.0 o
+        (λ g h j p. cells-returned all None g n h parts.0 known.keep known.shows known.form known.fits known.low
+        known.free known.light j p)
+        (λ g h j p. rows-returned d (Some []) g n (fresh-next []) h parts.1 known.others_keep known.others_show
+        known.others_form known.others_fit known.others_low known.others_free known.others_light j p)
+    rows-returned (documents.block (documents.element an.Caption attributes all) d) before f n fresh e settled
+        keep formats normal fits numbers plain light k o =
+        none-rows scripting is_rich n before f (subst (Stands (value_forest f)) (no-rows-trees attributes all d) e)
     rows-returned (documents.block b d) before f n fresh e settled keep formats normal fits numbers plain light
-        filled k o =
+        k o =
         false-true settled
 
     -- the cells of a row
@@ -418,13 +520,13 @@ module _ (scripting is_rich : Bool) where
         formats normal fits numbers plain light k o =
         let seen : documents.Blocks = cut_blocks all in
         let known = part-known is_rich n an.Cell attributes all d keep formats normal fits numbers plain light in
-        let cell = cell-settled an.Cell attributes seen (cut_blocks d) (cell-plain seen) settled in
+        let cell = cell-settled an.Cell attributes seen (cut_blocks d) (flow-plain an.Cell refl seen) settled in
         one-cell scripting is_rich n false attributes seen (cut_blocks d)
         (inside_trees (text_in_line all) (trees_in all)) (trees_in d) before f k
         (subst (Stands (value_forest f))
         (element-trees an.Cell attributes (text_in_line all) (spelled_in all) (spelled_in d)) e)
-        cell.own known.form known.keep o
-        (λ g h p. cell-returned scripting is_rich n all g h cell.inner known.shows known.form known.light p
+        known.rich known.form known.keep o
+        (λ g h p. cell-returned scripting is_rich n all g h known.rich cell.inner known.shows known.form known.light p
         (λ i q j r. returned all false false None i n fresh-first q cell.inner known.keep known.shows known.form
         known.fits known.low known.free known.light j r))
         (λ g h j p. cells-returned d (Some (pairs_of_element attributes)) g n h cell.after known.others_keep
@@ -434,13 +536,14 @@ module _ (scripting is_rich : Bool) where
         let seen : documents.Blocks = cut_blocks all in
         let known = part-known is_rich n an.HeaderCell attributes all d keep formats normal fits numbers plain
         light in
-        let cell = cell-settled an.HeaderCell attributes seen (cut_blocks d) (header-plain seen) settled in
+        let cell = cell-settled an.HeaderCell attributes seen (cut_blocks d) (flow-plain an.HeaderCell refl seen)
+        settled in
         one-cell scripting is_rich n true attributes seen (cut_blocks d)
         (inside_trees (text_in_line all) (trees_in all)) (trees_in d) before f k
         (subst (Stands (value_forest f))
         (element-trees an.HeaderCell attributes (text_in_line all) (spelled_in all) (spelled_in d)) e)
-        cell.own known.form known.keep o
-        (λ g h p. cell-returned scripting is_rich n all g h cell.inner known.shows known.form known.light p
+        known.rich known.form known.keep o
+        (λ g h p. cell-returned scripting is_rich n all g h known.rich cell.inner known.shows known.form known.light p
         (λ i q j r. returned all false false None i n fresh-first q cell.inner known.keep known.shows known.form
         known.fits known.low known.free known.light j r))
         (λ g h j p. cells-returned d (Some (pairs_of_element attributes)) g n h cell.after known.others_keep
@@ -449,9 +552,9 @@ module _ (scripting is_rich : Bool) where
         false-true settled
 
     -- what stands in a figure
-    figure-returned : (d : documents.Blocks) (before : Option (List AttributePair)) (f : NumberedForest) (n : ℕ)
-        → IsFresh before → Stands (value_forest f) (trees_in d) → are_in_figure (cut_blocks d) ≡ true
-        → are_settled_in an.Figure (cut_blocks d) ≡ true
+    figure-returned : (d : documents.Blocks) → is_rich ≡ true → (before : Option (List AttributePair))
+        (f : NumberedForest) (n : ℕ)
+        → IsFresh before → Stands (value_forest f) (trees_in d) → are_settled_in an.Figure (cut_blocks d) ≡ true
         → blocks_keep false (cut_blocks d) ≡ true
         → formats_show is_rich (cut_blocks d) ≡ true → are_normal_blocks false (cut_blocks d) ≡ true
         → depth_among (cut_blocks d) + n ≤ most_nested
@@ -459,23 +562,24 @@ module _ (scripting is_rich : Bool) where
         → weight_in (cut_blocks d) < greatest_count
         → (k : ℕ) → is_ordered k f ≡ true
         → AreInFigure is_rich n (shown_of scripting is_rich before f) (cut_blocks d)
-    figure-returned documents.no_blocks before f n fresh e lean settled keep formats normal fits numbers plain
+    figure-returned documents.no_blocks rich before f n fresh e settled keep formats normal fits numbers plain
         light k o =
         subst (λ (ts : Simples). AreInFigure is_rich n ts documents.no_blocks)
         (sym (ap (shown_of scripting is_rich before) (from-none f e) ∙ none-shown scripting is_rich before))
         (figure-none is_rich n)
-    figure-returned (documents.block (documents.element an.FigureCaption [] all) d) before f n fresh e lean settled
+    figure-returned (documents.block (documents.element an.FigureCaption [] all) d) rich before f n fresh e settled
         keep formats normal fits numbers plain light k o =
         let seen : documents.Blocks = cut_blocks all in
         let rest : documents.Blocks = cut_blocks d in
         let keeps = and_parts ((blocks_keep false seen && title_keeps seen) && true) (blocks_keep false rest) keep in
         let own_keep = and_parts (blocks_keep false seen) (title_keeps seen)
         (and_parts (blocks_keep false seen && title_keeps seen) true keeps.0).0 in
-        let parts = and_parts (is_caption seen && are_settled_in an.FigureCaption seen)
+        let parts = and_parts (blocks_are_away seen && are_settled_in an.FigureCaption seen)
         (are_settled_in an.Figure rest) settled in
-        let own_parts = and_parts (is_caption seen) (are_settled_in an.FigureCaption seen) parts.0 in
+        let own_parts = and_parts (blocks_are_away seen) (are_settled_in an.FigureCaption seen) parts.0 in
         let shows = and_parts (is_rich && formats_show is_rich seen) (formats_show is_rich rest) formats in
         let own_shows = and_parts is_rich (formats_show is_rich seen) shows.0 in
+        let lighter = left-light (weight_in seen) (weight_in rest) light in
         let good = and_parts (is_normal_block false (documents.element an.FigureCaption [] seen))
         (are_normal_blocks false rest)
         normal in
@@ -484,36 +588,41 @@ module _ (scripting is_rich : Bool) where
         let free = none-of is_rich (have_odd_tables all) (have_odd_tables d) plain in
         caption-one scripting is_rich n all d before f k fresh e own_parts.0
         (in-alone an.FigureCaption seen own_parts.1) own_keep.0 own_keep.1 own_shows.1 form.1
-        (or-false (is_filled seen) form.0)
-        (left-light (weight_in seen) (weight_in rest) light) o
-        (λ g h j p. figure-returned d (Some []) g n (fresh-next []) h lean parts.1 keeps.1 shows.1 good.1
+        (or-false (is_filled seen) form.0) lighter o
+        (λ g h j p. returned-given scripting is_rich None g n seen rich (unboxed seen form.1)
+        (returned all false false None g n fresh-first h (sym (flow-plain an.FigureCaption refl seen) ∙ own_parts.1)
+        own_keep.0 own_shows.1 form.1 (left-fits (depth_among seen) (depth_among rest) n most_nested fits) low.0 free.0
+        lighter j p))
+        (λ g h j p. figure-returned d rich (Some []) g n (fresh-next []) h parts.1 keeps.1 shows.1 good.1
         (right-fits (depth_among seen) (depth_among rest) n most_nested fits) low.1 free.1
         (right-light (weight_in seen) (weight_in rest) light) j p)
-    figure-returned (documents.block (documents.element an.FigureCaption (a ∷ attributes) all) d) before f n fresh e
-        lean settled keep formats normal fits numbers plain light k o =
+    figure-returned (documents.block (documents.element an.FigureCaption (a ∷ attributes) all) d) rich before f n
+        fresh e settled keep formats normal fits numbers plain light k o =
         false-true settled
-    figure-returned (documents.block b d) before f n fresh e lean settled keep formats normal fits numbers
-        plain light k o =
+    figure-returned (documents.block b d) rich before f n fresh e settled keep formats normal fits numbers plain light
+        k o =
         let own : documents.Block = cut_block b in
         let rest : documents.Blocks = cut_blocks d in
         let keeps = and_parts (stays false own rest) (blocks_keep false rest) keep in
-        let own_keep = and_parts (block_keeps own) (not (is_alone own) || stand_alone false rest) keeps.0 in
-        let thin = and_parts (is_of_figure own || is_lean own) (are_in_figure rest) lean in
         let parts = and_parts (is_settled_block own) (are_settled_in an.Figure rest) settled in
         let shows = and_parts (block_shows is_rich own) (formats_show is_rich rest) formats in
         let good = and_parts (is_normal_block false own) (are_normal_blocks false rest) normal in
         let low = and_parts (block_numbers_fit n own) (numbers_fit n rest) numbers in
         let free = none-of is_rich (has_odd_table b) (have_odd_tables d) plain in
-        let other = lean-other own rest own_keep.1 thin.1 in
+        let later : (attributes : List AttributePair) (g : NumberedForest) → Stands (value_forest g) (trees_in d)
+        → (k : ℕ) → is_ordered k g ≡ true
+        → AreInFigure is_rich n (shown_of scripting is_rich (Some attributes) g) rest =
+        λ attributes g h j p. figure-returned d rich (Some attributes) g n (fresh-next attributes) h parts.1 keeps.1
+        shows.1 good.1 (right-fits (depth_of own) (depth_among rest) n most_nested fits) low.1 free.1
+        (right-light (weight_of_block own) (weight_in rest) light) j p in
+        test (is_alone own)
+        (λ alone. alone-in-figure scripting is_rich b d before f n fresh e alone keeps.0 good.0 k o (later []))
+        (λ other.
         let first = one-returned b d false false before f n fresh e parts.0 keeps.0 shows.0 good.0
         (left-fits (depth_of own) (depth_among rest) n most_nested fits) low.0 free.0
         (left-light (weight_of_block own) (weight_in rest) light) k o other in
-        figure-first scripting is_rich before f n own d rest (unboxed (documents.block own rest) normal) thin.0 good.0
-        own_keep.0 other first
-        (figure-returned d (Some first.attributes) first.rest n (fresh-next first.attributes) first.others thin.1
-        parts.1 keeps.1 shows.1 good.1
-        (right-fits (depth_of own) (depth_among rest) n most_nested fits) low.1 free.1
-        (right-light (weight_of_block own) (weight_in rest) light) first.number first.ordered)
+        figure-first scripting is_rich before f n own d rest rich (unboxed (documents.block own rest) normal) refl first
+        (later first.attributes first.rest first.others first.number first.ordered))
 
     -- what stands in a list of terms
     terms-returned : (d : documents.Blocks) (before : Option (List AttributePair)) (f : NumberedForest) (n : ℕ)
@@ -533,14 +642,16 @@ module _ (scripting is_rich : Bool) where
         fits numbers plain light k o =
         let seen : documents.Blocks = cut_blocks all in
         let rest : documents.Blocks = cut_blocks d in
-        let parts = and_parts (is_title seen && are_settled_in an.Term seen)
+        let parts = and_parts (blocks_are_away seen && are_settled_in an.Term seen)
         (are_settled_in an.Terms rest)
         settled in
-        let own_parts = and_parts (is_title seen) (are_settled_in an.Term seen) parts.0 in
+        let own_parts = and_parts (blocks_are_away seen) (are_settled_in an.Term seen) parts.0 in
         let keeps = and_parts ((blocks_keep false seen && title_keeps seen) && true) (blocks_keep false rest) keep in
         let own_keep = and_parts (blocks_keep false seen) (title_keeps seen)
         (and_parts (blocks_keep false seen && title_keeps seen) true keeps.0).0 in
         let shows = and_parts (is_rich && formats_show is_rich seen) (formats_show is_rich rest) formats in
+        let own_shows = (and_parts is_rich (formats_show is_rich seen) shows.0).1 in
+        let lighter = left-light (weight_in seen) (weight_in rest) light in
         let good = and_parts (is_normal_block false (documents.element an.Term [] seen)) (are_normal_blocks false rest)
         normal in
         let form = and_parts (is_normal_element an.Term [] seen) (are_normal_blocks false seen) good.0 in
@@ -552,9 +663,12 @@ module _ (scripting is_rich : Bool) where
         let order = block-order k f own.id (codes "dt") [] own.inside own.line own.rest own.is o in
         let content : Simples = shown_at scripting is_rich true None own.inside in
         let within = title-inside scripting is_rich n all own.inside own.within
-        own_parts.0 (in-alone an.Term seen own_parts.1) own_keep.0
-        (and_parts is_rich (formats_show is_rich seen) shows.0).1
-        form.1 (left-light (weight_in seen) (weight_in rest) light) order.0 in
+        own_parts.0 (in-alone an.Term seen own_parts.1) own_keep.0 own_shows form.1 lighter order.0
+        (λ g h j p. returned-given scripting is_rich None g n seen
+        (and_parts is_rich (formats_show is_rich seen) shows.0).0 (unboxed seen form.1)
+        (returned all false false None g n fresh-first h (sym (flow-plain an.Term refl seen) ∙ own_parts.1) own_keep.0
+        own_shows form.1 (left-fits (depth_among seen) (depth_among rest) n most_nested fits) low.0 free.0
+        lighter j p)) in
         let later = terms-returned d (Some []) own.rest n (fresh-next []) own.others parts.1 keeps.1 shows.1 good.1
         (right-fits (depth_among seen) (depth_among rest) n most_nested fits) low.1 free.1
         (right-light (weight_in seen) (weight_in rest) light) (suc own.line) order.1 in
@@ -563,14 +677,14 @@ module _ (scripting is_rich : Bool) where
         (sym (ap (shown_of scripting is_rich before) own.is
         ∙ (term-shown scripting is_rich before own.id own.inside (behind own.line own.rest) fresh
         ∙ ap (more (made own.id role.Term [] content)) (line-shown scripting is_rich (Some []) own.line own.rest))))
-        (described-term is_rich n own.id content ts seen rest within.inside (within.first own_keep.1) later)
+        (described-term is_rich n own.id content ts seen rest within.inside (within.first own_keep.1) own_keep.0 later)
     terms-returned (documents.block (documents.element an.Meaning [] all) d) before f n fresh e settled keep formats
         normal
         fits numbers plain light k o =
         let seen : documents.Blocks = cut_blocks all in
         let rest : documents.Blocks = cut_blocks d in
         let parts = and_parts (are_settled_in an.Meaning seen) (are_settled_in an.Terms rest) settled in
-        let inner : are_settled_blocks seen ≡ true = sym (meaning-plain seen) ∙ parts.0 in
+        let inner : are_settled_blocks seen ≡ true = sym (flow-plain an.Meaning refl seen) ∙ parts.0 in
         let keeps = and_parts ((blocks_keep false seen && true) && true) (blocks_keep false rest) keep in
         let own_keep = kept-inside seen keeps.0 in
         let shows = and_parts (is_rich && formats_show is_rich seen) (formats_show is_rich rest) formats in
@@ -590,7 +704,7 @@ module _ (scripting is_rich : Bool) where
         let within = inside-returned scripting is_rich n (parts_of is_rich n) (plain-parts is_rich n) all own.inside
         (subst (λ t. Stands (value_forest own.inside) (inside_trees t (trees_in all))) (sym (cut-text all)) own.within)
         (in-alone an.Meaning seen parts.0) own_shows.1 form.1 lighter order.0
-        (λ g h j p. returned-given scripting is_rich None g n seen (unboxed seen form.1)
+        (λ g h j p. returned-given scripting is_rich None g n seen own_shows.0 (unboxed seen form.1)
         (returned all false false None g n fresh-first h inner own_keep
         own_shows.1 form.1
         (left-fits (depth_among seen) (depth_among rest) n most_nested fits) low.0 free.0 lighter j p)) in
@@ -604,7 +718,7 @@ module _ (scripting is_rich : Bool) where
         ∙ (meaning-shown scripting is_rich before own.id own.inside (behind own.line own.rest) fresh
         ∙ ap (more (made own.id role.Meaning [] content))
         (line-shown scripting is_rich (Some []) own.line own.rest))))
-        (described-meaning is_rich n own.id content ts seen rest within later)
+        (described-meaning is_rich n own.id content ts seen rest within own_keep later)
     terms-returned (documents.block b d) before f n fresh e settled keep formats normal fits numbers plain light k o =
         false-true settled
 
@@ -657,8 +771,8 @@ module _ (scripting is_rich : Bool) where
         (sym (ap (shown_of scripting is_rich before) own.is
         ∙ (item-shown scripting is_rich before own.id own.inside (behind own.line own.rest) fresh
         ∙ ap (more (made own.id role.Item [] content)) (line-shown scripting is_rich (Some []) own.line own.rest))))
-        (more-items is_rich n own.id content ts first is_tight later within.sound within.spent within.waits
-        within.paragraphs
+        (more-items is_rich n own.id content ts first is_tight later within.sound within.spent within.waits within.shows
+        within.leads within.unseen within.paragraphs
         within.blocks others)
 
     -- behind the first block of an item

@@ -9,8 +9,10 @@ use Rattle.htmd_document.specs.NormalDocuments.{are_short_numbers, is_normal_par
 use Rattle.htmd_shown.specs.Pieces.{greatest_count}
 use Rattle.htmd_law_returning.specs.PageFormats.{formats_show}
 use Rattle.htmd_law_returning.specs.SettledDocuments.{are_settled_blocks, are_settled_in, numbers_fit, weight_in}
-use Rattle.htmd_law_returning.specs.SettledTables.{is_settled_cell}
-use Rattle.htmd_law_returning.specs.LastingAnchors.{blocks_keep, line_keeps, is_alone, stand_alone, block_keeps}
+use Rattle.htmd_law_returning.specs.SettledTables.{are_of_cell}
+use Rattle.htmd_law_returning.specs.LastingAnchors.{line_keeps}
+use Rattle.htmd_document.specs.LoneAnchors.{is_alone, stand_alone}
+use Rattle.htmd_law_returning.proofs.KeptBlocks.{blocks_keep, block_keeps}
 use Rattle.htmd_law_returning.proofs.InlineLemmas.{left-light, right-light}
 use Rattle.htmd_law_returning.proofs.OddTables.{have_odd_tables}
 use Rattle.std.proofs.Math.Nat.{le-max_left, le-max_right}
@@ -32,7 +34,7 @@ use Rattle.htmd_law_returning.proofs.TaskLemmas.{is_lasting}
 use Rattle.htmd_law_returning.proofs.AloneBlocks.{AreTargets, targets-shown, alone-normal, alone-returned}
 use Rattle.htmd_law_returning.proofs.AloneBlocks.{alone-given}
 use Rattle.htmd_law_returning.proofs.FlowLemmas.{titled_of}
-use Rattle.htmd_law_returning.proofs.GivenBlocks.{AreGiven}
+use Rattle.htmd_law_returning.proofs.GivenBlocks.{AreGiven, title_of}
 use Rattle.htmd_shown.specs.declared.role.Role.TheVariants as role
 use Rattle.htmd_shown.specs.Facts.{made}
 use Rattle.htmd_shown.specs.SimpleTrees.{Simples, more}
@@ -69,6 +71,7 @@ kept-inside seen h =
 
 -- what is known of one, and of those behind it
 pub record IsPart (is_rich : Bool) (n : ℕ) (all d : documents.Blocks) : Type 0 where
+  pub rich : is_rich ≡ true
   pub keep : blocks_keep false (cut_blocks all) ≡ true
   pub others_keep : blocks_keep false (cut_blocks d) ≡ true
   pub shows : formats_show is_rich (cut_blocks all) ≡ true
@@ -100,14 +103,16 @@ part-known is_rich n name attributes all d keep formats normal fits numbers plai
     let rest : documents.Blocks = cut_blocks d in
     let keeps = and_parts ((blocks_keep false seen && true) && true) (blocks_keep false rest) keep in
     let shows = and_parts (is_rich && formats_show is_rich seen) (formats_show is_rich rest) formats in
+    let own_shows = and_parts is_rich (formats_show is_rich seen) shows.0 in
     let good = and_parts (is_normal_block false (documents.element name attributes seen))
     (are_normal_blocks false rest) normal in
     let low = and_parts (numbers_fit n seen) (numbers_fit n rest) numbers in
     let free = none-of is_rich (have_odd_tables all) (have_odd_tables d) plain in
     record {
+      rich = own_shows.0;
       keep = kept-inside seen keeps.0;
       others_keep = keeps.1;
-      shows = (and_parts is_rich (formats_show is_rich seen) shows.0).1;
+      shows = own_shows.1;
       others_show = shows.1;
       form = (and_parts (is_normal_element name attributes seen) (are_normal_blocks false seen) good.0).1;
       others_form = good.1;
@@ -122,20 +127,19 @@ part-known is_rich n name attributes all d keep formats normal fits numbers plai
     }
 
 -- what is known of a cell, and of those behind it
-pub record IsSettledCell (attributes : List documents.BlockAttribute) (seen rest : documents.Blocks) : Type 0 where
-  pub own : is_settled_cell attributes seen ≡ true
+pub record IsSettledCell (seen rest : documents.Blocks) : Type 0 where
   pub inner : are_settled_blocks seen ≡ true
   pub after : are_settled_in an.Row rest ≡ true
 
 pub cell-settled : (name : BlockElement) (attributes : List documents.BlockAttribute) (seen rest : documents.Blocks)
     → are_settled_in name seen ≡ are_settled_blocks seen
-    → ((is_settled_cell attributes seen && are_settled_in name seen) && are_settled_in an.Row rest) ≡ true
-    → IsSettledCell attributes seen rest
+    → ((are_of_cell attributes && are_settled_in name seen) && are_settled_in an.Row rest) ≡ true
+    → IsSettledCell seen rest
 cell-settled name attributes seen rest plain settled =
-    let own : Bool = is_settled_cell attributes seen in
+    let own : Bool = are_of_cell attributes in
     let parts = and_parts (own && are_settled_in name seen) (are_settled_in an.Row rest) settled in
     let cell = and_parts own (are_settled_in name seen) parts.0 in
-    record { own = cell.0; inner = sym plain ∙ cell.1; after = parts.1 }
+    record { inner = sym plain ∙ cell.1; after = parts.1 }
 
 -- ---- anchors
 
@@ -151,20 +155,20 @@ lasting-line is_end xs bs h e =
 
 module _ (scripting is_rich : Bool) where
   -- a paragraph of anchors alone, and what stands behind it
-  record IsAlone (before : Option (List AttributePair)) (f : NumberedForest) (xs : Inlines) (d : documents.Blocks)
+  pub record IsAlone (before : Option (List AttributePair)) (f : NumberedForest) (xs : Inlines) (d : documents.Blocks)
       : Type 0 where
-    id : ℕ
-    line : ℕ
-    rest : NumberedForest
-    content : Simples
-    some : has_none xs ≡ false
-    own : AreTargets is_rich content xs
-    shows : shown_of scripting is_rich before f
+    pub id : ℕ
+    pub line : ℕ
+    pub rest : NumberedForest
+    pub content : Simples
+    pub some : has_none xs ≡ false
+    pub own : AreTargets is_rich content xs
+    pub shows : shown_of scripting is_rich before f
         ≡ more (made id role.Paragraph [] content) (shown_of scripting is_rich (Some []) (behind line rest))
-    others : Stands (value_forest rest) (trees_in d)
-    ordered : is_ordered (suc line) rest ≡ true
+    pub others : Stands (value_forest rest) (trees_in d)
+    pub ordered : is_ordered (suc line) rest ≡ true
 
-  alone-found : (xs : Inlines) (d : documents.Blocks) (b : Bool) (before : Option (List AttributePair))
+  pub alone-found : (xs : Inlines) (d : documents.Blocks) (b : Bool) (before : Option (List AttributePair))
       (f : NumberedForest) → IsFresh before
       → Stands (value_forest f) (trees_in (documents.block (documents.paragraph xs) d)) → are_anchors xs ≡ true
       → line_keeps xs ≡ true → is_normal_paragraph b xs ≡ true → (k : ℕ) → is_ordered k f ≡ true
@@ -203,21 +207,22 @@ module _ (scripting is_rich : Bool) where
       (later own.rest own.others (suc own.line) own.ordered)
   alone-first b d in_one is_end before f n fresh e anchors keep normal k o later = false-true anchors
 
-  -- and in a `details`
-  pub alone-titled : (block : documents.Block) (d : documents.Blocks) (before : Option (List AttributePair))
+  -- and in a figure or a `details`
+  pub alone-titled : (in_figure : Bool) (block : documents.Block) (d : documents.Blocks)
+      (before : Option (List AttributePair))
       (f : NumberedForest) (n : ℕ) → IsFresh before
       → Stands (value_forest f) (trees_in (documents.block block d)) → is_alone (cut_block block) ≡ true
       → stays false (cut_block block) (cut_blocks d) ≡ true → is_normal_block false (cut_block block) ≡ true
       → (k : ℕ) → is_ordered k f ≡ true
       → ((g : NumberedForest) → Stands (value_forest g) (trees_in d) → (k : ℕ) → is_ordered k g ≡ true
-      → AreGiven (titled_of an.Summary is_rich n) (shown_of scripting is_rich (Some []) g) (cut_blocks d))
-      → AreGiven (titled_of an.Summary is_rich n) (shown_of scripting is_rich before f)
+      → AreGiven (titled_of (title_of in_figure) is_rich n) (shown_of scripting is_rich (Some []) g) (cut_blocks d))
+      → AreGiven (titled_of (title_of in_figure) is_rich n) (shown_of scripting is_rich before f)
       (documents.block (cut_block block) (cut_blocks d))
-  alone-titled (documents.paragraph xs) d before f n fresh e anchors keep normal k o later =
+  alone-titled in_figure (documents.paragraph xs) d before f n fresh e anchors keep normal k o later =
       let stands : Bool = stand_alone false (cut_blocks d) in
       let keeps = and_parts (line_keeps xs) (not (are_anchors xs) || stands) keep in
       let own = alone-found xs d false before f fresh e anchors keeps.0 normal k o in
       alone-given scripting is_rich false before f own.rest n own.line own.id xs own.content anchors own.some own.own
-      own.shows (cut_blocks d) (sym (ap (λ a. not a || stands) anchors) ∙ keeps.1)
+      own.shows in_figure (cut_blocks d) (sym (ap (λ a. not a || stands) anchors) ∙ keeps.1)
       (later own.rest own.others (suc own.line) own.ordered)
-  alone-titled b d before f n fresh e anchors keep normal k o later = false-true anchors
+  alone-titled in_figure b d before f n fresh e anchors keep normal k o later = false-true anchors

@@ -25,12 +25,12 @@ use Rattle.htmd_commonmark_reading.specs.SeenMarkup.{seen_items, document_inline
 use Rattle.htmd_commonmark_reading.specs.SeenMarkup.{document_block, document_blocks, document_items, option_of}
 use Rattle.htmd_commonmark_reading.specs.SeenMarkup.{and_list}
 use Rattle.htmd_flow.specs.Grids.{is_empty_cell, with_cell, trimmed_row}
-use Rattle.htmd_law_rendering.specs.SpelledTrees.{SpelledForest, value_forest}
+use Rattle.htmd_law_rendering.specs.SpelledTrees.{Spelled, SpelledForest, value_forest}
 use Rattle.htmd_law_rendering.specs.SpelledTrees as value
 use Rattle.htmd_law_rendering.specs.RenderedTrees.{line_end, heading_name, code_block_tree}
 use Rattle.htmd_law_rendering.specs.RenderedTrees.{list_name, pairs_of_start, pairs_of_alignment, cells_trees}
 use Rattle.htmd_law_rendering.specs.RenderedTrees.{pairs_of_element}
-use Rattle.htmd_law_rendering.specs.RenderedTrees.{rows_trees, sectioned}
+use Rattle.htmd_law_rendering.specs.RenderedTrees.{rows_trees, sectioned, is_caption}
 use Rattle.htmd_law_rendering.specs.RenderedTrees.{body_trees, block_trees}
 use Rattle.htmd_law_rendering.proofs.PairedBlocks.{both-some}
 use Rattle.htmd_law_returning.proofs.RawReadings.{has_no_raw, cells_have_no_raw, rows_have_no_raw, block_has_no_raw}
@@ -253,9 +253,28 @@ spelled_element name attributes None content ts =
     value.more (value.element value.spaced (element_name name) (pairs_of_element attributes)
     (spelled_before_line content)) (spelled_before_line ts)
 
--- the rows of a table are in a section
+-- the rows of a table up to a caption, and what stands behind these
+pub record Parts : Type 0 where
+  pub rows : SpelledForest
+  pub after : SpelledForest
+
+abbrev pub is_caption_tree : Spelled → Bool
+is_caption_tree (value.element form name attributes content) = is_caption name
+is_caption_tree (value.lone name attributes s) = is_caption name
+is_caption_tree t = false
+
+-- one more tree of a table
+abbrev pub part_before : Bool → Spelled → Parts → Parts
+part_before true t ps = record { rows = value.none; after = value.more t (sectioned ps.rows ps.after) }
+part_before false t ps = record { rows = value.more t ps.rows; after = ps.after }
+
+abbrev pub table_parts : SpelledForest → Parts
+table_parts value.none = record { rows = value.none; after = value.none }
+table_parts (value.more t ts) = part_before (is_caption_tree t) t (table_parts ts)
+
+-- the rows of a table are in sections, with its captions between them
 abbrev pub spelled_inside : BlockElement → SpelledForest → SpelledForest
-spelled_inside an.Table ts = sectioned ts value.none
+spelled_inside an.Table ts = sectioned (table_parts ts).rows (table_parts ts).after
 spelled_inside name ts = ts
 
 abbrev mutual

@@ -40,7 +40,7 @@ use Rattle.htmd_law_returning.proofs.TextLemmas.{text-line}
 use Rattle.htmd_law_returning.proofs.StartLemmas.{in_item, clean, false-true, true-false}
 use lib.Utf8.{encode}
 use Rattle.htmd_document.specs.NormalInlines.{anchors_stand_well}
-use Rattle.htmd_law_returning.specs.LastingAnchors.{line_keeps, goes_on, past_gaps}
+use Rattle.htmd_law_returning.specs.LastingAnchors.{line_keeps, past_gaps}
 
 -- ---- a hole behind the space
 
@@ -217,7 +217,7 @@ tail-single c s h = either (first_is space (c ∷ s)) (has_double_space (c ∷ s
     either true b e = false-true e
     either false b e = e
 
-tail-text : (c : ℕ) (s : List ℕ) → is_text (space ∷ c ∷ s) ≡ true → is_text (c ∷ s) ≡ true
+pub tail-text : (c : ℕ) (s : List ℕ) → is_text (space ∷ c ∷ s) ≡ true → is_text (c ∷ s) ≡ true
 tail-text c s h =
     let parts = and_parts (is_line (space ∷ c ∷ s) && true) (not (has_double_space (space ∷ c ∷ s))) h in
     let line = and_parts (is_utf8 (space ∷ c ∷ s)) (list_all is_line_byte (c ∷ s))

@@ -1,5 +1,5 @@
 -- Worked rows: a document that comes back from the HTML of its Markdown. Each holds by computing.
-use Rattle.std.proofs.Common.{◌≡◌, ℕ, Bool, List, [], true, false, ◌∷◌, ◌++◌, refl, codes, None}
+use Rattle.std.proofs.Common.{◌≡◌, ℕ, Bool, List, [], true, false, ◌∷◌, ◌++◌, refl, codes, None, Some}
 use Rattle.std.specs.Fmt.{digits}
 use Rattle.std.specs.Str.{chars, is_utf8}
 use Rattle.unicode.proofs.CategoryComputing.{ucd_category}
@@ -106,7 +106,7 @@ it_is_settled_as_well : are_settled (a_heading 3) ≡ true
 unfolding chars encode
 it_is_settled_as_well = refl
 
-abbrev usual : DocumentOptions
+abbrev pub usual : DocumentOptions
 usual = record {
   heading_style = Atx;
   hr_style = Dashes;
@@ -396,6 +396,31 @@ later_in_a_caption : anchors_stay which.All (a_captioned (block (paragraph (inli
     (inline (anchor (codes "y")) (inline (text (codes "c")) no_inlines)))) no_blocks)) ≡ false
 unfolding chars encode
 later_in_a_caption = refl
+
+-- any blocks stand in one: code, with an anchor before it and with a language, a heading, a list and a figure
+abbrev around_blocks : Blocks
+around_blocks =
+    block (element an.Figure [] (block (paragraph (inline (anchor (codes "x")) no_inlines))
+    (block (code_block None (codes "a")) (block (code_block (Some (codes "b")) (codes "c"))
+    (block (heading 2 (inline (text (codes "d")) no_inlines))
+    (block (list None true (item (block (paragraph (inline (text (codes "e")) no_inlines)) no_blocks) no_items))
+    (block (element an.Figure [] (block (code_block None (codes "f")) (block a_caption no_blocks)))
+    (block a_caption no_blocks)))))))) no_blocks
+
+around_blocks_it_is_settled : are_settled around_blocks ≡ true
+unfolding is_utf8 chars encode
+around_blocks_it_is_settled = refl
+
+its_anchor_before_code_stays : anchors_stay which.All around_blocks ≡ true
+unfolding chars encode
+its_anchor_before_code_stays = refl
+
+around_blocks_it_comes_back :
+    document_of_tree which.All (whole_sight false true) (page_back false usual around_blocks) ≡ around_blocks
+unfolding chars encode ucd_category digits html5_document block_rule formatting_rule phrasing_rule text_end_rule
+    move_last wrap_children forest_from tree_of role_of table_role heading_or_block block_role inline_role element_role
+    shown document_by document_of_tree node_of
+around_blocks_it_comes_back = refl
 
 -- without one a page has what is in it
 a_figure_alone : are_settled (block (element an.Figure [] (block thematic_break no_blocks)) no_blocks) ≡ false

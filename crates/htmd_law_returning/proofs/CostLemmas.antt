@@ -1,6 +1,6 @@
 -- What the links of a page cost, and that its budget has enough of it.
 use Rattle.std.proofs.Common.{◌≡◌, ℕ, suc, ◌+◌, ◌-◌, ◌*◌, ◌≤◌, ◌<◌, Bool, true, false}
-use Rattle.std.proofs.Common.{cond, List, [], ◌∷◌, ◌++◌, refl, subst}
+use Rattle.std.proofs.Common.{cond, List, ◌∷◌, ◌++◌, refl, subst}
 use Rattle.std.proofs.Common.{sym, ap, ◌∙◌, arith, Option, Some, None}
 use Rattle.std.specs.Prelude.{nat_le, nat_lt}
 use Rattle.std.proofs.lemmas.Bool.Decides.{nat_tests}

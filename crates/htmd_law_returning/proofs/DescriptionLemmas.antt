@@ -1,5 +1,5 @@
 -- What a list of terms gives, and what they mean.
-use Rattle.std.proofs.Common.{◌≡◌, ℕ, ◌+◌, Bool, true, false, ◌&&◌, ◌||◌, cond, List, [], ◌∷◌, ◌++◌, refl, sym, ap, ◌∙◌}
+use Rattle.std.proofs.Common.{◌≡◌, ℕ, Bool, true, false, ◌&&◌, ◌||◌, cond, List, [], ◌∷◌, ◌++◌, refl, sym, ap, ◌∙◌}
 use Rattle.std.proofs.Common.{map, fold, length, arith}
 use Rattle.std.specs.Prelude.{nat_lt}
 use Rattle.std.specs.List.{list_any}
@@ -22,6 +22,10 @@ use Rattle.htmd_shown.specs.declared.role.Role.{Role}
 use Rattle.htmd_shown.specs.declared.role.Role.TheVariants as role
 use Rattle.htmd_shown.specs.Facts.{made, facts_of}
 use Rattle.htmd_shown.specs.SimpleTrees.{Simple, Simples, text, element, none, more}
+use Rattle.htmd_document_of_tree.specs.Seen.{all_seen}
+use Rattle.htmd_law_returning.specs.LastingAnchors.{are_unseen}
+use Rattle.htmd_law_returning.specs.LastingAnchors.{title_keeps}
+use Rattle.htmd_law_returning.proofs.FirstTargets.{IsLead, first-more, line-first, line-seen-none, unseen-more}
 use Rattle.htmd_law_returning.specs.SettledDocuments.{weight_in, said_in, has_filled_element}
 use Rattle.htmd_law_returning.proofs.CostLemmas.{Spends, AllSpend, spend-none, spend-more, spend-text, spend-past}
 use Rattle.htmd_law_returning.proofs.CostLemmas.{spend-element}
@@ -31,12 +35,14 @@ use Rattle.htmd_law_returning.proofs.InsideLemmas.{IsInside, IsWritten}
 use Rattle.htmd_document.specs.declared.document.BlockElement.{BlockElement}
 use Rattle.htmd_shown.specs.declared.facts.Facts.{Facts}
 use Rattle.htmd_law_returning.specs.LastingAnchors.{lines_of, lines_in}
+use Rattle.htmd_law_returning.proofs.KeptBlocks.{blocks_keep}
 use Rattle.htmd_law_returning.proofs.KindLemmas.{line-local, line-waits, node-local, node-waits}
-use Rattle.htmd_law_returning.proofs.LeanTrees.{heavy-tree}
+use Rattle.htmd_law_returning.proofs.LeanTrees.{heavy-tree, black-filled, line-unseen}
 use Rattle.htmd_law_returning.proofs.LocalAnchors.{local, local_all, pending, pending_all, come_first}
 use Rattle.htmd_law_returning.proofs.SoundBlocks.{IsSound, AreSound, sound-none}
 use Rattle.htmd_law_returning.proofs.SoundNodes.{sound-text, sound-more, sound-element, sound-title}
 use Rattle.htmd_law_returning.proofs.StartLemmas.{false-true}
+use Rattle.htmd_shown.specs.Showings.{shows, show}
 use Rattle.htmd_law_returning.proofs.ListFlowLemmas.{list-fed}
 use Rattle.htmd_law_returning.proofs.ReadyLemmas.{here, parts_of, all-done, line-ready}
 use Rattle.htmd_law_returning.proofs.ReturnedBlocks.{list_in, list-in}
@@ -89,6 +95,9 @@ module _ (is_rich : Bool) (n : ℕ) where
         ≡ record { before = before; begun = ds ++ begun }
     pub same : documents.blocks_of (map description_element begun) ≡ d
     pub filled : list_any is_filled_description begun ≡ has_filled_element d
+    pub shows : has_filled_element d ≡ true → show false ts ≡ true
+    pub leads : title_keeps d ≡ true → come_first ts ≡ true
+    pub unseen : are_unseen d ≡ true → all_seen ts ≡ 0
 
   pub described-none : AreDescribed none no_blocks
   unfolding node_of
@@ -100,6 +109,9 @@ module _ (is_rich : Bool) (n : ℕ) where
     is = λ before ds. ap (λ xs. record { before = before; begun = xs }) (sym (append-nil ds));
     same = refl;
     filled = refl;
+    shows = λ h. false-true h;
+    leads = λ h. refl;
+    unseen = λ h. refl;
   }
 
   -- a description, and its element
@@ -130,10 +142,11 @@ module _ (is_rich : Bool) (n : ℕ) where
       → IsSound tree (lines_of (documents.element (name_for is_term) [] c))
       → pending [] tree ≡ [] → Spends (weight_in c) (said_in c) tree
       → local [] tree ≡ element id (role_for is_term) facts [] us → IsWritten (parts_of is_rich n) us c
-      → AreDescribed ts d
+      → (tight.is_filled c ≡ true → shows false tree ≡ true)
+      → IsLead (documents.element (name_for is_term) [] c) tree → AreDescribed ts d
       → AreDescribed (more tree (more (text (line_feed ∷ [])) ts))
       (block (documents.element (name_for is_term) [] c) d)
-  described-one is_term id facts tree us ts c d sound waits spent places written later =
+  described-one is_term id facts tree us ts c d sound waits spent places written shown leads later =
       let own : Description = description_with is_term (parts_of is_rich n us) in
       let line : Simples = more (text (line_feed ∷ [])) ts in
       let given : blocks_in (with_line own).content ≡ c =
@@ -165,31 +178,48 @@ module _ (is_rich : Bool) (n : ℕ) where
             ∙ ap (block (documents.element (name_for is_term) [] c)) later.same);
         filled = ap (λ bs. tight.is_filled bs || list_any is_filled_description later.begun) given
             ∙ ap (λ x. tight.is_filled c || x) later.filled;
+        shows = λ h. either (tight.is_filled c) (has_filled_element d) (shows false tree) (show false line)
+            (sym (own-filled is_term) ∙ h) shown
+            (λ k. line-unseen false ts ∙ later.shows k);
+        leads = first-more (documents.element (name_for is_term) [] c) d tree ts leads later.sound later.leads;
+        unseen = unseen-more (documents.element (name_for is_term) [] c) d tree ts leads later.unseen;
       }
     where
+      either : (a b s t : Bool) → (a || b) ≡ true → (a ≡ true → s ≡ true) → (b ≡ true → t ≡ true)
+          → (s || t) ≡ true
+      either true b s t h f g = ap (λ x. x || t) (f refl)
+      either false b true t h f g = refl
+      either false b false t h f g = g h
+
+      own-filled : (b : Bool) → has_filled_element (block (documents.element (name_for b) [] c) d)
+          ≡ (tight.is_filled c || has_filled_element d)
+      own-filled true = refl
+      own-filled false = refl
+
       own-name : (b : Bool) → cond b an.Term an.Meaning ≡ name_for b
       own-name true = refl
       own-name false = refl
 
   pub described-term : (id : ℕ) (content ts : Simples) (c d : Blocks)
-      → IsInside (parts_of is_rich n) content c → come_first content ≡ true → AreDescribed ts d
+      → IsInside (parts_of is_rich n) content c → come_first content ≡ true → blocks_keep false c ≡ true
+      → AreDescribed ts d
       → AreDescribed (more (made id role.Term [] content) (more (text (line_feed ∷ [])) ts))
       (block (documents.element an.Term [] c) d)
-  described-term id content ts c d inner first later =
+  described-term id content ts c d inner first keep later =
       described-one true id (facts_of content) (made id role.Term [] content) (local_all [] content) ts c d
       (sound-title id role.Term content (lines_in c) refl refl refl refl first inner.sound) inner.waits
       (spend-element (weight_in c) id role.Term (facts_of content) [] content refl inner.spent) refl inner.written
-      later
+      (λ h. inner.shows ∙ (black-filled c keep ∙ h)) (record { first = λ e. refl; unseen = inner.unseen }) later
 
   pub described-meaning : (id : ℕ) (content ts : Simples) (c d : Blocks)
-      → IsInside (parts_of is_rich n) content c → AreDescribed ts d
+      → IsInside (parts_of is_rich n) content c → blocks_keep false c ≡ true → AreDescribed ts d
       → AreDescribed (more (made id role.Meaning [] content) (more (text (line_feed ∷ [])) ts))
       (block (documents.element an.Meaning [] c) d)
-  described-meaning id content ts c d inner later =
+  described-meaning id content ts c d inner keep later =
       described-one false id (facts_of content) (made id role.Meaning [] content) (local_all [] content) ts c d
       (sound-element id role.Meaning [] content (lines_in c) refl refl inner.sound) inner.waits
       (spend-element (weight_in c) id role.Meaning (facts_of content) [] content refl inner.spent) refl inner.written
-      later
+      (λ h. inner.shows ∙ (black-filled c keep ∙ h)) (record { first = inner.first; unseen = inner.unseen }) later
 
   -- ---- the list
 
@@ -235,7 +265,9 @@ module _ (is_rich : Bool) (n : ℕ) where
             (spend-past (weight_in d) (text (line_feed ∷ [])) content (spend-text (line_feed ∷ [])) all.spent);
         kind = refl;
         untitled = refl;
-        lean = heavy-tree refl;
+        lean = heavy-tree refl refl (λ r. line-unseen false content ∙ all.shows filled)
+            (λ k. line-seen-none content ∙ all.unseen k)
+            (λ k. line-first content ∙ all.leads k);
         waits = line-waits content ∙ all.waits;
         led = λ ids e. false-true e;
         gives = λ mode w done h may ts.

@@ -3,27 +3,31 @@ use Rattle.std.proofs.Common.{◌≡◌, ℕ, suc, ◌+◌, Bool, true, false, �
 use Rattle.std.proofs.Common.{filter, map, length, refl, sym, ap, ◌∙◌, subst, nat_lt, ◌++◌}
 use Rattle.std.specs.List.{list_all, list_any}
 use Rattle.std.specs.Str.{chars}
-use Rattle.std.proofs.lemmas.Bool.{and_parts}
+use Rattle.std.proofs.lemmas.Bool.{and_parts, and_from}
 use Rattle.htmd_lexical.specs.Characters.{line_feed}
 use Rattle.htmd_document.specs.Documents.{Blocks, no_blocks, block, element, BlockAttribute}
 use Rattle.htmd_document.specs.TightItems.{is_filled}
 use Rattle.htmd_document.specs.declared.document.BlockElement.{BlockElement}
 use Rattle.htmd_document.specs.declared.document.BlockElement.TheVariants as an
-use Rattle.htmd_flow.specs.Flows.{node_of}
+use Rattle.htmd_flow.specs.Flows.{flow_all, node_of, nodes_of}
 use Rattle.htmd_flow.specs.Flows as flow
 use Rattle.htmd_flow.specs.Levels.{list_of}
 use Rattle.htmd_flow.specs.TableElements as elements
 use Rattle.htmd_flow.specs.Tables as tables
-use Rattle.htmd_shown.specs.Attributes.{row_span}
-use Rattle.htmd_shown.specs.Facts.{made, facts_of, pres_among}
+use Rattle.htmd_shown.specs.Facts.{made, facts_of}
 use Rattle.htmd_shown.specs.Kinds.{holds, have_table}
 use Rattle.htmd_shown.specs.Showings.{show}
 use Rattle.htmd_shown.specs.SimpleTrees.{Simple, Simples, none, more}
 use Rattle.htmd_shown.specs.SimpleTrees as simple
 use Rattle.htmd_shown.specs.declared.facts.Facts.{Facts}
 use Rattle.htmd_lexical.specs.AttributePairs.{AttributePair}
+use Rattle.htmd_document_of_tree.specs.Seen.{all_seen}
+use Rattle.htmd_law_returning.specs.LastingAnchors.{title_keeps, are_unseen}
+use Rattle.htmd_law_returning.proofs.FirstTargets.{IsLead, first-more, line-first, line-seen-none, unseen-more}
+use Rattle.htmd_law_returning.proofs.LocalAnchors.{come_first}
 use Rattle.htmd_law_returning.specs.LastingAnchors.{Line, lines_in}
 use Rattle.htmd_law_returning.proofs.LocalAnchors.{local_all, pending_all}
+use Rattle.htmd_law_returning.proofs.LocalLines.{element-local}
 use Rattle.htmd_law_returning.proofs.LocalShowings.{all-local-shows}
 use Rattle.htmd_law_returning.proofs.LocalTables.{lined, next-local, cell-local, row_with, row_tree, row-local}
 use Rattle.htmd_law_returning.proofs.LocalTables.{sound-next, sound-row}
@@ -36,11 +40,20 @@ use Rattle.htmd_law_returning.specs.SettledTables.{cells_in, rows_in, has_header
 use Rattle.htmd_law_returning.proofs.BareLemmas.{has_no_name}
 use Rattle.htmd_law_returning.proofs.CostLemmas.{AllSpend, spend-element, spend-none, spend-more, spend-past}
 use Rattle.htmd_law_returning.proofs.CostLemmas.{spend-text}
+use Rattle.htmd_law_returning.proofs.NearContexts.{silent-same, all-same}
+use Rattle.htmd_law_returning.proofs.PartAttributes.{silent}
 use Rattle.htmd_law_returning.proofs.ReadyLemmas.{here, parts_of}
-use Rattle.htmd_law_returning.proofs.RichCellLemmas.{cell_role, cells_among, line_tree}
+use Rattle.htmd_law_returning.proofs.RichCellLemmas.{cell_role, cells_among, line_tree, or-true, cells-show}
 use Rattle.htmd_law_returning.proofs.RichTableLemmas.{body_rows, as_pieces}
+use Rattle.htmd_law_returning.proofs.StartLemmas.{false-true}
 use Rattle.htmd_document_of_tree.specs.Limits.{is_carrying}
 use lib.Utf8.{encode}
+
+-- something shows first, or later
+either-visible : (a b c d : Bool) → (c ≡ true → a ≡ true) → (d ≡ true → b ≡ true) → (c || d) ≡ true
+    → (a || b) ≡ true
+either-visible a b true d own later h = ap (λ x. x || b) (own refl)
+either-visible a b false d own later h = ap (λ x. a || x) (later h) ∙ or-true a
 
 -- ---- cells
 
@@ -51,8 +64,7 @@ cell_name false = an.Cell
 -- nodes that are the cells of a row
 pub record AreCellNodes (is_rich : Bool) (n : ℕ) (row : Blocks) (ts : Simples) : Type 0 where
   pub alone : list_all (tables.is_cell_or_nothing true) (list_of ts) ≡ true
-  pub gives : map (flow.cell_with_blocks false false (here is_rich n)) (cells_among ts) ≡ cells_in row
-  pub spanless : list_any (λ (m : flow.Node). flow.may_span m.tree) (cells_among ts) ≡ false
+  pub gives : map (flow.cell_with_blocks true false (here is_rich n)) (cells_among ts) ≡ cells_in row
   pub shows : list_any (λ (m : flow.Node). flow.content_shows m.tree) (cells_among ts)
       ≡ list_any elements.is_filled_cell (cells_in row)
   pub heads : list_any (λ (m : flow.Node). flow.is_header false m.tree) (cells_among ts)
@@ -67,6 +79,8 @@ pub record AreElementCells (is_rich : Bool) (n : ℕ) (row : Blocks) (ts : Simpl
   pub waits : pending_all [] ts ≡ []
   pub spent : AllSpend (weight_in row) (said_in row) ts
   pub nodes : AreCellNodes is_rich n row (local_all [] ts)
+  pub leads : title_keeps row ≡ true → come_first ts ≡ true
+  pub unseen : are_unseen row ≡ true → all_seen ts ≡ 0
 
 module _ (is_rich : Bool) (n : ℕ) where
   no-nodes : AreCellNodes is_rich n no_blocks none
@@ -74,7 +88,6 @@ module _ (is_rich : Bool) (n : ℕ) where
   no-nodes = record {
     alone = refl;
     gives = refl;
-    spanless = refl;
     shows = refl;
     heads = refl;
     count = refl;
@@ -82,14 +95,19 @@ module _ (is_rich : Bool) (n : ℕ) where
   }
 
   pub no-cells : AreElementCells is_rich n no_blocks none
-  no-cells = record { sound = sound-none; waits = refl; spent = spend-none; nodes = no-nodes }
+  no-cells = record {
+    sound = sound-none;
+    waits = refl;
+    spent = spend-none;
+    nodes = no-nodes;
+    leads = λ h. refl;
+    unseen = λ h. refl;
+  }
 
   -- what is known of a cell's nodes, and of its blocks
   record IsCellNode (facts : Facts) (attributes : List BlockAttribute) (content : Simples) (d : Blocks) : Type 0 where
     gives : flow.blocks_of false (parts_of is_rich n content) ≡ d
-    preless : facts.pres ≡ 0
     shows : show false content ≡ is_filled d
-    spanless : row_span (pairs_of_element attributes) ≡ 1
     tableless : elements.is_paragraph_at_most d ≡ true → facts.holds_table ≡ false
 
   pub record IsCellTree (attributes : List BlockAttribute) (content : Simples) (d : Blocks) : Type 0 where
@@ -98,10 +116,10 @@ module _ (is_rich : Bool) (n : ℕ) where
     pub waits : pending_all [] content ≡ []
     pub spent : AllSpend (weight_in d) (said_in d) content
     pub gives : flow.blocks_of false (parts_of is_rich n (local_all [] content)) ≡ d
-    pub preless : pres_among content ≡ 0
     pub shows : show false content ≡ is_filled d
-    pub spanless : row_span (pairs_of_element attributes) ≡ 1
     pub tableless : elements.is_paragraph_at_most d ≡ true → have_table content ≡ false
+    pub first : title_keeps d ≡ true → come_first content ≡ true
+    pub unseen : are_unseen d ≡ true → all_seen content ≡ 0
 
   abbrev cell_node : ℕ → Bool → Facts → List BlockAttribute → Simples → Simple
   cell_node id is_header facts attributes content =
@@ -122,23 +140,20 @@ module _ (is_rich : Bool) (n : ℕ) where
   cell-gives : (id : ℕ) (is_header : Bool) (facts : Facts) (attributes : List BlockAttribute) (content ts : Simples)
       (d rest : Blocks)
       → IsCellNode facts attributes content d
-      → map (flow.cell_with_blocks false false (here is_rich n)) (cells_among ts) ≡ cells_in rest
-      → map (flow.cell_with_blocks false false (here is_rich n))
+      → map (flow.cell_with_blocks true false (here is_rich n)) (cells_among ts) ≡ cells_in rest
+      → map (flow.cell_with_blocks true false (here is_rich n))
       (cells_among (cell_trees id is_header facts attributes content ts))
       ≡ cells_in (block (element (cell_name is_header) attributes d) rest)
   unfolding node_of
   cell-gives id true facts attributes content ts d rest own e = rw (own.gives, e) refl
-  cell-gives id false facts attributes content ts d rest own e = rw (own.preless, own.gives, e) refl
-
-  cell-spanless : (id : ℕ) (is_header : Bool) (facts : Facts) (attributes : List BlockAttribute)
-      (content ts : Simples)
-      → row_span (pairs_of_element attributes) ≡ 1
-      → list_any (λ (m : flow.Node). flow.may_span m.tree) (cells_among ts) ≡ false
-      → list_any (λ (m : flow.Node). flow.may_span m.tree)
-      (cells_among (cell_trees id is_header facts attributes content ts)) ≡ false
-  unfolding node_of
-  cell-spanless id true facts attributes content ts one h = rw one h
-  cell-spanless id false facts attributes content ts one h = rw one h
+  cell-gives id false facts attributes content ts d rest own e =
+      rw (
+        silent-same facts.pres (pairs_of_element attributes) (silent attributes)
+            (λ c. flow.blocks_of false (flow_all (nodes_of content) c))
+            (λ c x y h. ap (flow.blocks_of false) (all-same content c x y h)) is_rich n,
+        own.gives,
+        e,
+      ) refl
 
   cell-shows : (id : ℕ) (is_header : Bool) (facts : Facts) (attributes : List BlockAttribute) (content ts : Simples)
       (d rest : Blocks)
@@ -197,7 +212,6 @@ module _ (is_rich : Bool) (n : ℕ) where
   more-nodes id is_header facts attributes content ts d rest own later = record {
     alone = cell-alone id is_header facts attributes content ts later.alone;
     gives = cell-gives id is_header facts attributes content ts d rest own later.gives;
-    spanless = cell-spanless id is_header facts attributes content ts own.spanless later.spanless;
     shows = cell-shows id is_header facts attributes content ts d rest own.shows later.shows;
     heads = cell-heads id is_header facts attributes content ts d rest later.heads;
     count = cell-count id is_header facts attributes content ts d rest later.count;
@@ -230,6 +244,18 @@ module _ (is_rich : Bool) (n : ℕ) where
   lines-behind true attributes d rest = refl
   lines-behind false attributes d rest = refl
 
+  cell-leads : (id : ℕ) (is_header : Bool) (attributes : List BlockAttribute) (content : Simples) (d : Blocks)
+      → IsCellTree attributes content d → IsLead (element (cell_name is_header) attributes d)
+      (made id (cell_role is_header) (pairs_of_element attributes) content)
+  cell-leads id true attributes content d own = record {
+    first = λ h. and_from (has_no_name (pairs_of_element attributes)) (come_first content) own.nameless (own.first h);
+    unseen = own.unseen;
+  }
+  cell-leads id false attributes content d own = record {
+    first = λ h. and_from (has_no_name (pairs_of_element attributes)) (come_first content) own.nameless (own.first h);
+    unseen = own.unseen;
+  }
+
   pub more-cells : (id : ℕ) (is_header : Bool) (attributes : List BlockAttribute) (content ts : Simples)
       (d rest : Blocks) → IsCellTree attributes content d → AreElementCells is_rich n rest ts
       → AreElementCells is_rich n (block (element (cell_name is_header) attributes d) rest)
@@ -252,11 +278,13 @@ module _ (is_rich : Bool) (n : ℕ) where
             (more-nodes id is_header facts attributes inner (local_all [] ts) d rest
             (record {
               gives = own.gives;
-              preless = own.preless;
               shows = all-local-shows false [] content ∙ own.shows;
-              spanless = own.spanless;
               tableless = own.tableless;
             }) later.nodes);
+        leads = first-more (element (cell_name is_header) attributes d) rest tree ts
+            (cell-leads id is_header attributes content d own) later.sound later.leads;
+        unseen = unseen-more (element (cell_name is_header) attributes d) rest tree ts
+            (cell-leads id is_header attributes content d own) later.unseen;
       }
 
 -- ---- rows
@@ -264,9 +292,8 @@ module _ (is_rich : Bool) (n : ℕ) where
 -- nodes that are the rows of a table
 pub record AreRowNodes (is_rich : Bool) (n : ℕ) (rows : Blocks) (ts : Simples) : Type 0 where
   pub alone : list_all (tables.is_row_or_nothing true) (list_of ts) ≡ true
-  pub gives : (id : ℕ) → map (flow.piece_with_blocks false (here is_rich n)) (as_pieces (body_rows id ts))
+  pub gives : (id : ℕ) → map (flow.piece_with_blocks true (here is_rich n)) (as_pieces (body_rows id ts))
       ≡ rows_in (Some id) rows
-  pub spanless : (id : ℕ) → flow.have_row_spans (body_rows id ts) ≡ false
   pub kept : (id : ℕ) → list_all elements.is_filled_piece (rows_in (Some id) rows) ≡ true
       → filter (flow.stays false) (as_pieces (body_rows id ts)) ≡ as_pieces (body_rows id ts)
   pub heads : (id : ℕ) → list_any flow.heads (as_pieces (body_rows id ts))
@@ -275,6 +302,8 @@ pub record AreRowNodes (is_rich : Bool) (n : ℕ) (rows : Blocks) (ts : Simples)
       ≡ list_any is_wide (rows_in (Some id) rows)
   pub tableless : (id : ℕ) → elements.are_paragraphs (rows_in (Some id) rows) ≡ true
       → list_any flow.holds_table (as_pieces (body_rows id ts)) ≡ false
+  pub visible : (id : ℕ) → list_any elements.is_filled_piece (rows_in (Some id) rows) ≡ true
+      → show false ts ≡ true
 
 -- what shows of them, with anchors or without
 pub record AreElementRows (is_rich : Bool) (n : ℕ) (rows : Blocks) (ts : Simples) : Type 0 where
@@ -282,6 +311,8 @@ pub record AreElementRows (is_rich : Bool) (n : ℕ) (rows : Blocks) (ts : Simpl
   pub waits : pending_all [] ts ≡ []
   pub spent : AllSpend (weight_in rows) (said_in rows) ts
   pub nodes : AreRowNodes is_rich n rows (local_all [] ts)
+  pub leads : title_keeps rows ≡ true → come_first ts ≡ true
+  pub unseen : are_unseen rows ≡ true → all_seen ts ≡ 0
 
 module _ (is_rich : Bool) (n : ℕ) where
   none-rows : AreRowNodes is_rich n no_blocks none
@@ -289,15 +320,25 @@ module _ (is_rich : Bool) (n : ℕ) where
   none-rows = record {
     alone = refl;
     gives = λ id. refl;
-    spanless = λ id. refl;
     kept = λ id h. refl;
     heads = λ id. refl;
     wide = λ id. refl;
     tableless = λ id h. refl;
+    visible = λ id h. false-true h;
   }
 
+  abbrev bare_row : ℕ → Facts → Simple
+  bare_row id facts = simple.element id role.Row facts [] none
+
   pub no-rows : AreElementRows is_rich n no_blocks none
-  no-rows = record { sound = sound-none; waits = refl; spent = spend-none; nodes = none-rows }
+  no-rows = record {
+    sound = sound-none;
+    waits = refl;
+    spent = spend-none;
+    nodes = none-rows;
+    leads = λ h. refl;
+    unseen = λ h. refl;
+  }
 
   row-alone : (id : ℕ) (facts : Facts) (cells ts : Simples)
       → list_all (tables.is_cell_or_nothing true) (list_of cells) ≡ true
@@ -308,6 +349,13 @@ module _ (is_rich : Bool) (n : ℕ) where
   row-alone id facts cells ts h k =
       ap (λ b. b && list_all (tables.is_row_or_nothing true) (list_of ts)) h ∙ k
 
+  row-visible : (id : ℕ) (facts : Facts) (cells ts : Simples) (c d : Bool)
+      → (c ≡ true → show false cells ≡ true)
+      → (d ≡ true → show false ts ≡ true) → (c || d) ≡ true
+      → show false (more (row_with facts id cells) (lined ts)) ≡ true
+  unfolding chars encode
+  row-visible id facts cells ts c d own later h = either-visible (show false cells) (show false ts) c d own later h
+
   one-more : (id : ℕ) (facts : Facts) (attributes : List BlockAttribute) (cells ts : Simples) (row rest : Blocks)
       → AreCellNodes is_rich n row cells → AreRowNodes is_rich n rest ts
       → AreRowNodes is_rich n (block (element an.Row attributes row) rest) (more (row_with facts id cells) (lined ts))
@@ -316,11 +364,8 @@ module _ (is_rich : Bool) (n : ℕ) where
     alone = row-alone id facts cells ts own.alone later.alone;
     gives = λ part.
         ap (λ cs. elements.row (record { part = Some part; cells = cs })
-        ∷ map (flow.piece_with_blocks false (here is_rich n)) (as_pieces (body_rows part ts))) own.gives
+        ∷ map (flow.piece_with_blocks true (here is_rich n)) (as_pieces (body_rows part ts))) own.gives
         ∙ ap (λ ps. elements.row (record { part = Some part; cells = cells_in row }) ∷ ps) (later.gives part);
-    spanless = λ part.
-        ap (λ b. (b && flow.follows_in_part (Some part) (body_rows part ts))
-        || flow.have_row_spans (body_rows part ts)) own.spanless ∙ later.spanless part;
     kept = λ part h.
         let parts = and_parts (list_any elements.is_filled_cell (cells_in row))
         (list_all elements.is_filled_piece (rows_in (Some part) rest)) h in
@@ -339,6 +384,10 @@ module _ (is_rich : Bool) (n : ℕ) where
         (elements.are_paragraphs (rows_in (Some part) rest)) h in
         ap (λ b. b || list_any flow.holds_table (as_pieces (body_rows part ts))) (own.tableless parts.0)
         ∙ later.tableless part parts.1;
+    visible = λ part.
+        row-visible id facts cells ts (list_any elements.is_filled_cell (cells_in row))
+        (list_any elements.is_filled_piece (rows_in (Some part) rest))
+        (λ h. cells-show cells (own.shows ∙ h)) (later.visible part);
   }
 
   pub more-rows : (id : ℕ) (attributes : List BlockAttribute) (cells ts : Simples) (row rest : Blocks)
@@ -360,4 +409,53 @@ module _ (is_rich : Bool) (n : ℕ) where
         nodes = subst (λ (us : Simples). AreRowNodes is_rich n (block (element an.Row attributes row) rest) us)
             (sym stays.0)
             (one-more id facts attributes (local_all [] cells) (local_all [] ts) row rest own.nodes later.nodes);
+        leads = first-more (element an.Row attributes row) rest (row_tree id cells) ts (record {
+          first = λ h. line-first cells ∙ own.leads h;
+          unseen = λ h. line-seen-none cells ∙ own.unseen h;
+        }) later.sound later.leads;
+        unseen = unseen-more (element an.Row attributes row) rest (row_tree id cells) ts (record {
+          first = λ h. line-first cells ∙ own.leads h;
+          unseen = λ h. line-seen-none cells ∙ own.unseen h;
+        }) later.unseen;
       }
+
+  -- a row without cells
+  bare-nodes : (id : ℕ) (facts : Facts) (rest : Blocks) (ts : Simples) → AreRowNodes is_rich n rest ts
+      → AreRowNodes is_rich n (block (element an.Row [] no_blocks) rest) (more (bare_row id facts) (lined ts))
+  unfolding node_of chars encode
+  bare-nodes id facts rest ts later = record {
+    alone = later.alone;
+    gives = λ part. ap (λ ps. elements.row (record { part = Some part; cells = [] }) ∷ ps) (later.gives part);
+    kept = λ part h. false-true h;
+    heads = later.heads;
+    wide = later.wide;
+    tableless = later.tableless;
+    visible = later.visible;
+  }
+
+  pub one-bare-row : (id : ℕ) (rest : Blocks) (ts : Simples) → AreElementRows is_rich n rest ts
+      → AreElementRows is_rich n (block (element an.Row [] no_blocks) rest)
+      (more (made id role.Row [] none) (more line_tree ts))
+  one-bare-row id rest ts later =
+      let facts : Facts = facts_of none in
+      let first = element-local id role.Row facts [] none refl refl refl in
+      let stays = next-local (bare_row id facts) (bare_row id facts) ts first in
+      record {
+        sound = sound-next (bare_row id facts) ts [] (lines_in rest) first.1
+            (sound-element id role.Row [] none [] refl refl sound-none) later.sound;
+        waits = stays.1 ∙ later.waits;
+        spent = spend-more 0 (weight_in rest) (bare_row id facts) (lined ts)
+            (spend-element 0 id role.Row facts [] none refl spend-none)
+            (spend-past (weight_in rest) line_tree ts (spend-text (line_feed ∷ [])) later.spent);
+        nodes = subst (λ (us : Simples). AreRowNodes is_rich n (block (element an.Row [] no_blocks) rest) us)
+            (sym stays.0) (bare-nodes id facts rest (local_all [] ts) later.nodes);
+        leads = first-more (element an.Row [] no_blocks) rest (bare_row id facts) ts
+            (record { first = λ h. refl; unseen = λ h. refl }) later.sound later.leads;
+        unseen = unseen-more (element an.Row [] no_blocks) rest (bare_row id facts) ts
+            (record { first = λ h. refl; unseen = λ h. refl }) later.unseen;
+      }
+
+-- something shows in rows in which something stands
+pub rows-visible : (is_rich : Bool) (n id : ℕ) (rows : Blocks) (ts : Simples) → AreElementRows is_rich n rows ts
+    → list_any elements.is_filled_piece (rows_in (Some id) rows) ≡ true → show false ts ≡ true
+rows-visible is_rich n id rows ts all h = sym (all-local-shows false [] ts) ∙ all.nodes.visible id h

@@ -43,7 +43,7 @@ use Rattle.htmd_law_returning.proofs.AddressLemmas.{ascii-bytes, encoded-stays}
 use Rattle.htmd_law_returning.proofs.ChangedLemmas.{none-same, whole-same, meets-same, anchors-same, stand-same}
 use Rattle.htmd_law_returning.proofs.ChangedLemmas.{count-same, filled-items, distance-same, depth-same}
 use Rattle.htmd_law_returning.proofs.ChangedLemmas.{filled-same, ends-same-as, cells-length, cell-same, filled-ends}
-use Rattle.htmd_law_returning.specs.SettledDocuments.{is_settled_line, is_settled_paragraph}
+use Rattle.htmd_law_returning.specs.SettledDocuments.{is_settled_paragraph}
 use Rattle.htmd_document.specs.NormalInlines.{first_passes, last_passes, begins_with_space, ends_with_space, is_break}
 
 -- ---- addresses

@@ -31,6 +31,12 @@ use Rattle.htmd_shown.specs.declared.role.Role.TheVariants as role
 use Rattle.htmd_shown.specs.declared.facts.Facts.{Facts}
 use Rattle.htmd_shown.specs.Facts.{made, facts_of}
 use Rattle.htmd_shown.specs.SimpleTrees.{Simple, Simples, text, element, none, more}
+use Rattle.htmd_document.specs.NormalInlines.{are_anchors}
+use Rattle.htmd_document_of_tree.specs.Seen.{all_seen}
+use Rattle.htmd_law_returning.specs.LastingAnchors.{are_unseen}
+use Rattle.htmd_law_returning.specs.LastingAnchors.{title_keeps, heading_keeps}
+use Rattle.htmd_law_returning.proofs.LocalAnchors.{come_first}
+use Rattle.std.proofs.lemmas.Bool.{and_from}
 use Rattle.htmd_law_returning.proofs.BareLemmas.{is_bare, has_no_name}
 use Rattle.htmd_document.specs.Documents.{Inlines, no_inlines, inline}
 use Rattle.htmd_document.specs.NormalInlines.{has_none, are_normal}
@@ -38,14 +44,14 @@ use Rattle.htmd_flow.specs.Nesting.{Wrapper}
 use Rattle.htmd_shown.specs.AllTexts.{with_line_feeds, without_last_line_feed}
 use Rattle.htmd_shown.specs.Spaces.{no_gap, is_blank_text}
 use Rattle.htmd_shown.specs.Kinds.{has}
-use Rattle.htmd_law_returning.specs.SettledDocuments.{weight_among, weight_of_block, weight_in}
+use Rattle.htmd_law_returning.specs.SettledDocuments.{behind_box, weight_among, weight_of_block, weight_in}
 use Rattle.htmd_law_returning.specs.SettledDocuments.{said_among, said_of_block, said_in}
 use Rattle.htmd_law_returning.proofs.LineParts.{parts_in, Numbers, is_rising}
 use Rattle.htmd_law_returning.proofs.LineEntryLemmas.{IsFed, IsEntry, clean-placed}
 use Rattle.htmd_law_returning.proofs.InlineLemmas.{free-none}
 use Rattle.htmd_law_returning.proofs.LineLemmas.{begin-all}
 use Rattle.htmd_law_returning.proofs.LeanTrees.{IsLeanTree, AreLeanTrees, heavy-tree, paragraph-lean, break-lean}
-use Rattle.htmd_law_returning.proofs.LeanTrees.{quote-lean}
+use Rattle.htmd_law_returning.proofs.LeanTrees.{quote-lean, is_black}
 use Rattle.htmd_law_returning.proofs.LineFactLemmas.{AreLineTrees}
 use Rattle.htmd_law_returning.proofs.LineFormLemmas.{IsWhole}
 use Rattle.htmd_law_returning.proofs.NestLemmas.{whole-hole}
@@ -68,11 +74,10 @@ use Rattle.htmd_law_returning.proofs.PlacedTrees.{bare-local}
 use Rattle.htmd_law_returning.proofs.KindLemmas.{line-local}
 use Rattle.htmd_shown.specs.declared.role.Role.{Role}
 use Rattle.htmd_document.specs.declared.document.BlockElement.{BlockElement}
-use Rattle.std.proofs.Common.{◌||◌}
 use Rattle.htmd_flow.specs.Parts.{Part}
 use Rattle.htmd_shown.specs.Attributes.{is_filled as is_filled_text}
 use Rattle.htmd_shown.specs.Marks.{letters}
-use Rattle.htmd_shown.specs.Showings.{code_shows}
+use Rattle.htmd_shown.specs.Showings.{code_shows, show}
 use Rattle.htmd_law_returning.proofs.AnchorLeaves.{places}
 use Rattle.htmd_law_returning.proofs.LocalAnchors.{waits as waits_behind, put_if}
 use Rattle.htmd_law_returning.proofs.AloneLemmas.{alone, put-parts, led-fed}
@@ -201,7 +206,7 @@ pub record GivesBlock (is_rich : Bool) (n : ℕ) (tree : Simple) (b : Block) : T
   pub spent : Spends (weight_of_block b) (said_of_block b) tree
   pub kind : has roles.is_paragraph tree ≡ is_paragraph b
   pub untitled : has is_item_or_title tree ≡ false
-  pub lean : IsLeanTree b tree
+  pub lean : IsLeanTree is_rich b tree
   pub waits : pending [] tree ≡ []
   -- anchors stand alone before a code block
   pub led : (ids : List (List ℕ)) → is_code b ≡ true → IsLed is_rich n tree b ids
@@ -216,7 +221,7 @@ pub record GivesBare (is_rich : Bool) (n : ℕ) (tree : Simple) (b : Block) : Ty
   pub spent : Spends (weight_of_block b) (said_of_block b) tree
   pub kind : has roles.is_paragraph tree ≡ is_paragraph b
   pub untitled : has is_item_or_title tree ≡ false
-  pub lean : IsLeanTree b tree
+  pub lean : IsLeanTree is_rich b tree
   pub gives : (mode : Mode) (w : Writing) (done : List Block) → IsReady mode w done → May (is_boxed b) mode done
       → (ts : Simples)
       → fed_all w (parts_of is_rich n (more tree ts))
@@ -243,15 +248,17 @@ module _ (is_rich : Bool) (n id : ℕ) where
       → AllSpend (weight_among xs) (said_among xs) content → pending_all [] content ≡ []
       → ((w : Writing) → fed_all w (parts_of is_rich n (local_all [] content)) ≡ fed_all w (parts_in [] ns xs))
       → has_none xs ≡ false → (has_task xs ≡ false → AreLineTrees xs content)
+      → show false content ≡ true → are_anchors xs ≡ false
+      → (heading_keeps (behind_box xs) ≡ true → come_first content ≡ true)
       → ((mode : Mode) (done : List Block) → May (has_task xs) mode done → IsLineFed mode done ns xs)
       → GivesBlock is_rich n (made id role.Paragraph [] content) (paragraph xs)
-  paragraph-gives content ns xs sound spent waits e some plain line_of = record {
+  paragraph-gives content ns xs sound spent waits e some plain shown other first line_of = record {
     sound = sound-element id role.Paragraph [] content (line false xs ∷ []) refl refl
         (sound-line xs content sound);
     spent = spend-element (weight_among xs) id role.Paragraph (facts_of content) [] content refl spent;
     kind = refl;
     untitled = refl;
-    lean = paragraph-lean id xs content plain;
+    lean = paragraph-lean is_rich id xs content plain shown other first;
     waits = waits;
     led = λ ids e. false-true e;
     gives = λ mode w done h may ts.
@@ -272,15 +279,15 @@ module _ (is_rich : Bool) (n id : ℕ) where
       → pending_all [] content ≡ []
       → ((w : Writing) → fed_all w (flow_all (nodes_of (local_all [] content)) (place true is_rich n []))
       ≡ fed_all w (parts_in [] ns xs))
-      → IsWhole xs
+      → IsWhole xs → show true content ≡ true
       → are_normal false [] xs ≡ true → are_held xs ≡ true → is_rising 0 ns xs ≡ true
       → GivesBlock is_rich n (made id (role.Heading level) [] content) (heading level xs)
-  heading-gives level content ns xs sound led spent waits e ends normal settled rise = record {
+  heading-gives level content ns xs sound led spent waits e ends shown normal settled rise = record {
     sound = sound-heading id level xs content led sound;
     spent = spend-element (weight_among xs) id (role.Heading level) (facts_of content) [] content refl spent;
     kind = refl;
     untitled = refl;
-    lean = heavy-tree refl;
+    lean = heavy-tree refl refl (λ r. shown) (λ k. false-true k) (λ k. refl);
     waits = waits;
     led = λ ids e. false-true e;
     gives = λ mode w done h may ts.
@@ -299,7 +306,7 @@ module _ (is_rich : Bool) (n id : ℕ) where
     spent = spend-element 0 id role.ThematicBreak (facts_of none) [] none refl spend-none;
     kind = refl;
     untitled = refl;
-    lean = break-lean id;
+    lean = break-lean is_rich id;
     gives = λ mode w done h may ts.
         ap (fed_all w) (break-parts is_rich n id ts)
         ∙ ap (λ v. fed_all v (parts_of is_rich n ts)) (whole-fed mode w done h thematic_break);
@@ -358,23 +365,25 @@ module _ (is_rich : Bool) (n id : ℕ) where
             (spend-more 0 0 (text t) none (spend-longer s t longer) spend-none)) spend-none);
         kind = refl;
         untitled = refl;
-        lean = heavy-tree refl;
+        lean = heavy-tree refl refl (λ r. shows) (λ k. false-true k) (λ k. refl);
         waits = first.waits;
         led = λ ids e. before ids;
         gives = λ mode w done h may ts. first.gives mode w done h ts;
       }
 
   pub quote-gives : (content : Simples) (d : Blocks) → nat_le most_nested n ≡ false → is_filled d ≡ true
+      → is_black d ≡ true
       → AreSound content (lines_in d) → AllSpend (weight_in d) (said_in d) content
-      → AreLeanTrees d content → pending_all [] content ≡ []
+      → AreLeanTrees is_rich d content → (title_keeps d ≡ true → come_first content ≡ true)
+      → (are_unseen d ≡ true → all_seen content ≡ 0) → pending_all [] content ≡ []
       → flow.blocks_of false (parts_of is_rich (suc n) (local_all [] content)) ≡ d
       → GivesBlock is_rich n (made id role.BlockQuote [] content) (quote d)
-  quote-gives content d free filled sound spent lean waits e = record {
+  quote-gives content d free filled black sound spent lean first unseen waits e = record {
     sound = sound-element id role.BlockQuote [] content (lines_in d) refl refl sound;
     spent = spend-element (weight_in d) id role.BlockQuote (facts_of content) [] content refl spent;
     kind = refl;
     untitled = refl;
-    lean = quote-lean id d content filled lean;
+    lean = quote-lean is_rich id d content black lean first unseen;
     waits = waits;
     led = λ ids e. false-true e;
     gives = λ mode w done h may ts.
@@ -417,16 +426,19 @@ module _ (is_rich : Bool) (n id : ℕ) where
   pub details-gives : (attributes : List AttributePair) (content : Simples) (d : Blocks) → is_rich ≡ true
       → has_no_name attributes ≡ true → is_filled d ≡ true
       → AreSound content (lines_in d) → AllSpend (weight_in d) (said_in d) content
-      → pending_all [] content ≡ []
+      → pending_all [] content ≡ [] → show false content ≡ true
+      → (title_keeps d ≡ true → come_first content ≡ true)
+      → (are_unseen d ≡ true → all_seen content ≡ 0)
       → flow.blocks_of false (titled_of name.Summary is_rich n (local_all [] content)) ≡ d
       → GivesBlock is_rich n (made id role.Details attributes content)
       (documents.element name.Details (open_attribute attributes) d)
-  details-gives attributes content d rich nameless filled sound spent waits e = record {
+  details-gives attributes content d rich nameless filled sound spent waits shown first unseen e = record {
     sound = sound-element id role.Details attributes content (lines_in d) refl nameless sound;
     spent = spend-element (weight_in d) id role.Details (facts_of content) attributes content refl spent;
     kind = refl;
     untitled = refl;
-    lean = heavy-tree refl;
+    lean = heavy-tree refl refl (λ r. shown) unseen
+        (λ k. and_from (has_no_name attributes) (come_first content) nameless (first k));
     waits = waits;
     led = λ ids e. false-true e;
     gives = λ mode w done h may ts.

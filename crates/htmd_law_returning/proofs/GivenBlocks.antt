@@ -1,5 +1,5 @@
 -- What nodes give whose titles may be elements, as the summary of a `details` is.
-use Rattle.std.proofs.Common.{◌≡◌, ℕ, ◌+◌, Bool, true, false, ◌&&◌, ◌||◌, cond, List, [], ◌∷◌, ◌++◌, refl, sym, ap}
+use Rattle.std.proofs.Common.{◌≡◌, ℕ, Bool, true, false, not, ◌&&◌, ◌||◌, cond, List, [], ◌∷◌, ◌++◌, refl, sym, ap}
 use Rattle.std.proofs.Common.{◌∙◌, subst, Option, Some, None, map}
 use Rattle.std.proofs.lemmas.List.{append_assoc, append-nil}
 use Rattle.std.proofs.lemmas.List.Sums.{fold-append}
@@ -24,21 +24,29 @@ use Rattle.htmd_shown.specs.declared.role.Role.TheVariants as role
 use Rattle.htmd_shown.specs.Facts.{made, facts_of}
 use Rattle.htmd_shown.specs.Kinds.{has}
 use Rattle.htmd_shown.specs.Roles as roles
+use Rattle.htmd_shown.specs.Showings.{shows, show}
 use Rattle.htmd_shown.specs.SimpleTrees.{Simple, Simples, text, image, formula, embedded, anchor, element, none, more}
+use Rattle.htmd_document_of_tree.specs.Seen.{all_seen}
+use Rattle.htmd_law_returning.specs.LastingAnchors.{are_unseen}
+use Rattle.htmd_law_returning.specs.LastingAnchors.{title_keeps}
+use Rattle.htmd_law_returning.proofs.FirstTargets.{IsLead, first-more, unseen-more}
+use Rattle.htmd_law_returning.proofs.LocalAnchors.{come_first}
 use Rattle.htmd_law_returning.specs.SettledDocuments.{weight_in, weight_of_block, said_in, said_of_block}
 use Rattle.htmd_law_returning.proofs.CostLemmas.{Spends, AllSpend, spend-none, spend-more, spend-text, spend-past}
 use Rattle.htmd_law_returning.proofs.CostLemmas.{spend-element}
 use Rattle.htmd_law_returning.proofs.AloneLemmas.{alone}
 use Rattle.htmd_law_returning.proofs.FlowLemmas.{GivesBlock, is_code, is_item_or_title, titled_of}
+use Rattle.htmd_law_returning.proofs.LeanTrees.{is_black}
 use Rattle.htmd_law_returning.proofs.PageLemmas.{shown_of, line-shown}
 use Rattle.htmd_law_returning.proofs.ReadyLemmas.{here, parts_of, IsReady, none-parts, text-parts, line-ready}
 use Rattle.htmd_law_returning.proofs.ReadyLemmas.{apart-fed}
 use Rattle.htmd_law_returning.proofs.ReturnedBlocks.{AreReturned, IsFirst, list_in, none-left, all-ready, led-ready}
 use Rattle.htmd_law_returning.proofs.ReturnedBlocks.{code-first}
 use Rattle.htmd_law_returning.proofs.StartLemmas.{in_blocks, clean, begins_boxed, is_boxed, false-true, true-false}
-use Rattle.htmd_law_returning.specs.LastingAnchors.{Line, lines_of, lines_in, stand_alone}
+use Rattle.htmd_law_returning.specs.LastingAnchors.{Line, lines_of, lines_in}
+use Rattle.htmd_document.specs.LoneAnchors.{is_alone, stand_alone}
 use Rattle.htmd_law_returning.proofs.KindLemmas.{IsInner, verbatim-only, kind-local, node-local, node-waits}
-use Rattle.htmd_law_returning.proofs.LocalAnchors.{local, local_all, pending, pending_all, come_first}
+use Rattle.htmd_law_returning.proofs.LocalAnchors.{local, local_all, pending, pending_all}
 use Rattle.htmd_law_returning.proofs.SoundBlocks.{IsSound, AreSound, sound-none, begins_coded, is_coded, is_gap}
 use Rattle.htmd_law_returning.proofs.SoundNodes.{sound-text, sound-more, sound-title}
 use Rattle.htmd_law_returning.proofs.TaskLemmas.{may-always}
@@ -200,6 +208,9 @@ ready-led parts ids tree us b d k gives later w done h =
 pub record AreGiven (parts : Simples → List Part) (ts : Simples) (d : Blocks) : Type 0 where
   pub sound : AreSound ts (lines_in d)
   pub waits : pending_all [] ts ≡ []
+  pub shows : show false ts ≡ is_black d
+  pub first : title_keeps d ≡ true → come_first ts ≡ true
+  pub unseen : are_unseen d ≡ true → all_seen ts ≡ 0
   pub spent : AllSpend (weight_in d) (said_in d) ts
   pub ready : AreReady parts (local_all [] ts) d
   pub begins : stand_alone false d ≡ true → begins_coded ts ≡ true
@@ -217,6 +228,9 @@ pub given-none : (parts : Simples → List Part) → AreParts parts → AreGiven
 given-none parts k = record {
   sound = sound-none;
   waits = refl;
+  shows = refl;
+  first = λ e. refl;
+  unseen = λ e. refl;
   spent = spend-none;
   ready = ready-none parts k;
   begins = λ e. false-true e;
@@ -225,16 +239,21 @@ given-none parts k = record {
 
 pub given-more : (parts : Simples → List Part) (tree : Simple) (ts : Simples) (b : Block) (d : Blocks)
     → AreParts parts
-    → IsSound tree (lines_of b) → pending [] tree ≡ [] → Spends (weight_of_block b) (said_of_block b) tree
+    → IsSound tree (lines_of b) → pending [] tree ≡ [] → is_alone b ≡ false → shows false tree ≡ true
+    → IsLead b tree
+    → Spends (weight_of_block b) (said_of_block b) tree
     → Gives parts (local [] tree) b → ((ids : List (List ℕ)) → is_code b ≡ true → IsLedIn parts ids tree b)
     → AreGiven parts ts d
     → AreGiven parts (more tree (more (text (line_feed ∷ [])) ts)) (block b d)
-given-more parts tree ts b d k sound waits spent gives led later =
+given-more parts tree ts b d k sound waits black shown leads spent gives led later =
     let line : Simples = more (text (line_feed ∷ [])) ts in
     record {
       sound = sound-more tree line (lines_of b) (lines_in d) waits sound
           (sound-text (line_feed ∷ []) ts (lines_in d) later.sound);
       waits = node-waits [] tree ts waits ∙ later.waits;
+      shows = ap (λ x. x || show false line) shown ∙ sym (ap (λ x. not x || is_black d) black);
+      first = first-more b d tree ts leads later.sound later.first;
+      unseen = unseen-more b d tree ts leads later.unseen;
       spent = spend-more (weight_of_block b) (weight_in d) tree line spent
           (spend-past (weight_in d) (text (line_feed ∷ [])) ts (spend-text (line_feed ∷ [])) later.spent);
       ready = subst (λ (us : Simples). AreReady parts us (block b d)) (sym (node-local [] tree ts waits))
@@ -255,11 +274,14 @@ title-inner = record { plain = refl; verbatim = verbatim-only (λ r. is_item_or_
 module _ (scripting is_rich : Bool) where
   -- what came back
   pub returned-given : (before : Option (List AttributePair)) (f : NumberedForest) (n : ℕ) (d : Blocks)
-      → begins_boxed d ≡ false → AreReturned scripting is_rich false before f n d
+      → is_rich ≡ true → begins_boxed d ≡ false → AreReturned scripting is_rich false before f n d
       → AreGiven (parts_of is_rich n) (shown_of scripting is_rich before f) d
-  returned-given before f n d plain all = record {
+  returned-given before f n d rich plain all = record {
     sound = all.sound;
     waits = none-left scripting is_rich before f n d all;
+    shows = all.lean.shows rich;
+    first = all.first;
+    unseen = all.unseen;
     spent = all.spent;
     ready = λ w done h. all-ready scripting is_rich before f n d all in_blocks w done h
         (may-always (begins_boxed d) in_blocks done plain);
@@ -270,11 +292,11 @@ module _ (scripting is_rich : Bool) where
   -- a block that is no title
   pub given-first : (in_figure : Bool) (before : Option (List AttributePair)) (f : NumberedForest) (n : ℕ) (b : Block)
       (after d : Blocks)
-      → is_boxed b ≡ false → (first : IsFirst scripting is_rich before f n b after)
+      → is_rich ≡ true → is_boxed b ≡ false → (first : IsFirst scripting is_rich before f n b after)
       → AreGiven (titled_of (title_of in_figure) is_rich n)
       (shown_of scripting is_rich (Some first.attributes) first.rest) d
       → AreGiven (titled_of (title_of in_figure) is_rich n) (shown_of scripting is_rich before f) (block b d)
-  given-first in_figure before f n b after d plain first later =
+  given-first in_figure before f n b after d rich plain first later =
       let parts : Simples → List Part = titled_of (title_of in_figure) is_rich n in
       let tree : Simple = first.tree in
       let own : GivesBlock is_rich n tree b = first.own in
@@ -282,7 +304,8 @@ module _ (scripting is_rich : Bool) where
       subst (λ (us : Simples). AreGiven parts us (block b d))
       (sym (first.shows
       ∙ ap (more tree) (line-shown scripting is_rich (Some first.attributes) first.line first.rest)))
-      (given-more parts tree ts b d (titled-parts is_rich n (title_of in_figure)) own.sound own.waits own.spent
+      (given-more parts tree ts b d (titled-parts is_rich n (title_of in_figure)) own.sound own.waits
+      own.lean.black (own.lean.shows rich) own.lean.leads own.spent
       (λ w done h us. titled-more (local [] tree) (kind-local is_item_or_title title-inner [] tree ∙ own.untitled) w
       (done ++ b ∷ []) (own.gives in_blocks w done h (may-always (is_boxed b) in_blocks done plain) none) us)
       (λ ids e.
@@ -326,6 +349,17 @@ title-waits : (in_figure : Bool) (id : ℕ) (content : Simples) → pending_all 
 title-waits true id content h = h
 title-waits false id content h = h
 
+title-shows : (in_figure : Bool) (id : ℕ) (content : Simples) → show false content ≡ true
+    → shows false (made id (title_role in_figure) [] content) ≡ true
+title-shows true id content h = h
+title-shows false id content h = h
+
+title-leads : (in_figure : Bool) (id : ℕ) (c : Blocks) (content : Simples)
+    → (are_unseen c ≡ true → all_seen content ≡ 0)
+    → IsLead (documents.element (title_of in_figure) [] c) (made id (title_role in_figure) [] content)
+title-leads true id c content unseen = record { first = λ e. refl; unseen = unseen }
+title-leads false id c content unseen = record { first = λ e. refl; unseen = unseen }
+
 title-local : (in_figure : Bool) (id : ℕ) (content : Simples)
     → local [] (made id (title_role in_figure) [] content)
     ≡ element id (title_role in_figure) (facts_of content) [] (local_all [] content)
@@ -335,18 +369,21 @@ title-local false id content = refl
 -- a title
 pub given-title : (is_rich in_figure : Bool) (n id : ℕ) (content ts : Simples) (c d : Blocks) → is_filled c ≡ true
     → AreSound content (lines_in c) → come_first content ≡ true → pending_all [] content ≡ []
+    → show false content ≡ true → (are_unseen c ≡ true → all_seen content ≡ 0)
     → AllSpend (weight_in c) (said_in c) content
     → flow.blocks_of false (parts_of is_rich n (local_all [] content)) ≡ c
     → AreGiven (titled_of (title_of in_figure) is_rich n) ts d
     → AreGiven (titled_of (title_of in_figure) is_rich n)
     (more (made id (title_role in_figure) [] content) (more (text (line_feed ∷ [])) ts))
     (block (documents.element (title_of in_figure) [] c) d)
-given-title is_rich in_figure n id content ts c d filled sound first waits spent e later =
+given-title is_rich in_figure n id content ts c d filled sound first waits shown unseen spent e later =
     let parts : Simples → List Part = titled_of (title_of in_figure) is_rich n in
     let title : Block = documents.element (title_of in_figure) [] c in
     given-more parts (made id (title_role in_figure) [] content) ts title d
     (titled-parts is_rich n (title_of in_figure)) (title-sound in_figure id content (lines_in c) first sound)
-    (title-waits in_figure id content waits) (title-spends in_figure id c content spent)
+    (title-waits in_figure id content waits) refl (title-shows in_figure id content shown)
+    (title-leads in_figure id c content unseen)
+    (title-spends in_figure id c content spent)
     (λ w done h us. ap (λ t. fed_all w (parts (more t us))) (title-local in_figure id content)
     ∙ (ap (fed_all w) (title-more is_rich n in_figure id (facts_of content) (local_all [] content) us c filled e)
     ∙ ap (λ v. fed_all v (parts us)) (apart-fed in_blocks w done h title)))

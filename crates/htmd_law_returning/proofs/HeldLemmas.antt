@@ -10,7 +10,8 @@ use Rattle.htmd_document.specs.NormalInlines.{first_passes, last_passes, has_non
 use Rattle.htmd_document.specs.NormalInlines.{is_normal, are_normal, meets, stands_well, shows_after}
 use Rattle.htmd_document.specs.NormalInlines.{anchors_stand_well}
 use Rattle.htmd_shown.specs.Spaces.{is_blank_text}
-use Rattle.htmd_law_returning.specs.LastingAnchors.{past_gaps, goes_on, keeps_anchors, line_keeps}
+use Rattle.htmd_law_returning.specs.LastingAnchors.{past_gaps, goes_on, line_keeps}
+use Rattle.htmd_law_returning.proofs.KeptBlocks.{keeps_anchors}
 use Rattle.htmd_law_returning.specs.NoAnchors.{has_no_anchors, have_no_anchors}
 use Rattle.htmd_law_returning.specs.WholeLines.{begins_white_text, ends_white_text, begins_white, ends_white}
 use Rattle.htmd_law_returning.specs.WholeLines.{is_same_around, is_apart, is_whole_inside, are_whole_inside, is_whole}

@@ -21,7 +21,8 @@ use Rattle.htmd_document_of_tree.specs.FirstPieces.{pieced_all}
 use Rattle.htmd_document_of_tree.specs.Leadings.{all_leadings, nowhere, is_led_to}
 use Rattle.htmd_document_of_tree.specs.declared.leadings.Layout.TheVariants as layout
 use Rattle.htmd_document_of_tree.specs.Targets.{Target, targets_among, firsts, firsts_after, ids_among as target_ids}
-use Rattle.htmd_law_returning.specs.LastingAnchors.{anchors_stay, anchors_stand, blocks_keep}
+use Rattle.htmd_law_returning.specs.LastingAnchors.{anchors_stay, anchors_stand, lines_stand}
+use Rattle.htmd_document.specs.LoneAnchors.{all_stand}
 use Rattle.htmd_law_returning.specs.LastingAnchors.{cells_of, lines_of, lines_in, lines_among, are_led_to}
 use Rattle.htmd_law_returning.specs.NoAnchors.{has_no_anchors, have_no_anchors, block_has_no_anchors}
 use Rattle.htmd_law_returning.specs.NoAnchors.{blocks_have_no_anchors, items_have_no_anchors}
@@ -97,14 +98,14 @@ mutual
       let p = and_parts (has_no_anchors x) (have_no_anchors xs) h in
       rw (none-of x p.0, none-among xs p.1) refl
 
-none-in-cells : (cells : List Inlines) → list_all have_no_anchors cells ≡ true
+pub none-in-cells : (cells : List Inlines) → list_all have_no_anchors cells ≡ true
     → ids_in_lines (cells_of cells) ≡ []
 none-in-cells [] h = refl
 none-in-cells (c ∷ cs) h =
     let p = and_parts (have_no_anchors c) (list_all have_no_anchors cs) h in
     rw (none-among c p.0, none-in-cells cs p.1) refl
 
-none-in-rows : (rows : List (List Inlines)) → list_all (list_all have_no_anchors) rows ≡ true
+pub none-in-rows : (rows : List (List Inlines)) → list_all (list_all have_no_anchors) rows ≡ true
     → ids_in_lines (flat_map cells_of rows) ≡ []
 none-in-rows [] h = refl
 none-in-rows (r ∷ rs) h =
@@ -112,7 +113,7 @@ none-in-rows (r ∷ rs) h =
     ids-both (cells_of r) (flat_map cells_of rs) ∙ rw (none-in-cells r p.0, none-in-rows rs p.1) refl
 
 mutual
-  none-in-block : (b : Block) → block_has_no_anchors b ≡ true → ids_in_lines (lines_of b) ≡ []
+  pub none-in-block : (b : Block) → block_has_no_anchors b ≡ true → ids_in_lines (lines_of b) ≡ []
   none-in-block (paragraph xs) h = append-nil (ids_of_line xs) ∙ none-among xs h
   none-in-block (heading level xs) h = append-nil (ids_of_line xs) ∙ none-among xs h
   none-in-block (code_block language s) h = refl
@@ -132,7 +133,8 @@ mutual
       let p = and_parts (block_has_no_anchors b) (blocks_have_no_anchors bs) h in
       ids-both (lines_of b) (lines_in bs) ∙ rw (none-in-block b p.0, none-in-blocks bs p.1) refl
 
-  none-in-items : (items : Items) → items_have_no_anchors items ≡ true → ids_in_lines (lines_among items) ≡ []
+  pub none-in-items : (items : Items) → items_have_no_anchors items ≡ true
+      → ids_in_lines (lines_among items) ≡ []
   none-in-items no_items h = refl
   none-in-items (item bs rest) h =
       let p = and_parts (blocks_have_no_anchors bs) (items_have_no_anchors rest) h in
@@ -175,7 +177,7 @@ stand-once : (ts : Simples) (d : Blocks) → AreSound ts (lines_in d) → anchor
     → firsts (targets_in ts) ≡ targets_in ts
 stand-once ts d h e =
     are-firsts (targets_in ts) (ids_in_lines (lines_in d)) (h.placed.places 0)
-    (ap are_distinct (blocks-ids d) ∙ (and_parts (blocks_keep true d) (has_unique_ids d) e).1)
+    (ap are_distinct (blocks-ids d) ∙ (and_parts (lines_stand d && all_stand true d) (has_unique_ids d) e).1)
 
 pub anchored-home : (w : Anchors) (is_rich : Bool) (ts : Simples) (d : Blocks) → AreSound ts (lines_in d)
     → anchors_stay w d ≡ true

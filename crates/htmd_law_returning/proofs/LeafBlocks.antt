@@ -13,6 +13,7 @@ use Rattle.htmd_shown.specs.declared.role.Role.TheVariants as role
 use Rattle.htmd_shown.specs.Facts.{made, facts_of}
 use Rattle.htmd_shown.specs.SimpleTrees.{Simple, Simples, text, none, more}
 use Rattle.htmd_law_rendering.specs.RenderedTrees.{heading_name, code_trees, code_block_tree, pairs_of_language}
+use Rattle.htmd_law_returning.proofs.LineFactLemmas.{line-seen}
 use Rattle.htmd_law_returning.specs.SettledDocuments.{is_settled_block, is_settled_code, has_settled_language}
 use Rattle.htmd_law_returning.specs.SettledDocuments.{weight_of_block, is_settled_line, are_away}
 use Rattle.htmd_law_returning.proofs.OddTables.{has_odd_table}
@@ -38,7 +39,8 @@ use Rattle.htmd_shown.specs.Pieces.{greatest_count}
 use Rattle.htmd_law_rendering.specs.SpelledTrees.{value_forest as forest_of}
 use Rattle.htmd_law_returning.proofs.FlowLemmas.{break-gives, heading-gives, paragraph-gives, pre-gives, bare-gives}
 use Rattle.htmd_law_returning.proofs.ReturnedBlocks.{behind, first-one, IsFirst}
-use Rattle.htmd_law_returning.specs.LastingAnchors.{line_keeps, heading_keeps, is_alone}
+use Rattle.htmd_law_returning.specs.LastingAnchors.{line_keeps, heading_keeps}
+use Rattle.htmd_document.specs.LoneAnchors.{is_alone}
 use Rattle.htmd_law_returning.proofs.HeadingLemmas.{heading-normal}
 use Rattle.htmd_law_returning.proofs.BlockSteps.{stays, lasting-line}
 
@@ -72,7 +74,7 @@ module _ (scripting is_rich : Bool) where
       (ap (shown_of scripting is_rich before) own.is
       ∙ paragraph-shown scripting is_rich before own.id own.inside (behind own.line own.rest) fresh)
       (paragraph-gives is_rich n own.id content shown.numbers xs
-      shown.sound shown.spent shown.waits shown.gives (paragraph-some xs line) shown.plain
+      shown.sound shown.spent shown.waits shown.gives (paragraph-some xs line) shown.plain shown.shows other shown.first
       (paragraph-fed shown.numbers xs line shown.rising))
       own.others (suc own.line) order.1
   leaf-first (documents.heading level xs) d b is_end before f n fresh e leaf settled keep formats normal plain light k o
@@ -95,7 +97,9 @@ module _ (scripting is_rich : Bool) where
       ∙ heading-shown scripting is_rich before own.id own.inside (behind own.line own.rest) level line.right fresh)
       (heading-gives is_rich n own.id level (shown_in_heading scripting is_rich own.inside) shown.numbers
       xs shown.sound (shown.led keeps.1) shown.spent shown.waits
-      (shown.gives true n) (whole-inlines xs line.some held.0) line.normal held.1 shown.rising)
+      (shown.gives true n) (whole-inlines xs line.some held.0)
+      (shown.plain.bold (line-seen xs false [] (whole-inlines xs line.some held.0) line.normal held.1))
+      line.normal held.1 shown.rising)
       own.others (suc own.line) order.1
   leaf-first documents.thematic_break d b is_end before f n fresh e leaf settled keep formats normal plain light k o
       other =

@@ -21,6 +21,8 @@ pub mod PageLemmas
 pub mod KindLemmas
 pub mod ReadyLemmas
 pub mod AloneLemmas
+pub mod NearContexts
+pub mod FirstTargets
 pub mod LeanTrees
 pub mod FlowLemmas
 pub mod ListFlowLemmas
@@ -42,6 +44,7 @@ pub mod FlatTrees
 pub mod ElementForms
 pub mod SectionTrees
 pub mod ElementTrees
+pub mod ElementPages
 pub mod OpenLemmas
 pub mod PartAttributes
 pub mod FlatLemmas
@@ -55,6 +58,7 @@ pub mod SoundBlocks
 pub mod SoundNodes
 pub mod HomeAnchors
 pub mod ShownInlines
+pub mod FarLinks
 pub mod InlineParts
 pub mod LocalLines
 pub mod ShownBreaks
@@ -66,11 +70,16 @@ pub mod LocalShowings
 pub mod LocalTables
 pub mod TableCells
 pub mod TableLemmas
+pub mod KeptBlocks
 pub mod StayLemmas
 pub mod UnplacedAnchors
 pub mod TableShownLemmas
 pub mod TaskLemmas
+pub mod TallRows
+pub mod FarLines
 pub mod ElementCells
+pub mod UnpartedPieces
+pub mod TableContents
 pub mod ElementTables
 pub mod ReturnedBlocks
 pub mod AloneBlocks
@@ -78,10 +87,13 @@ pub mod ItemBlocks
 pub mod GivenBlocks
 pub mod ElementShown
 pub mod InsideLemmas
+pub mod FarBlocks
+pub mod TitleLemmas
 pub mod FigureLemmas
 pub mod FigureBlocks
 pub mod CellLemmas
 pub mod TablePartLemmas
+pub mod TableCaptions
 pub mod DescriptionLemmas
 pub mod BlockSteps
 pub mod LeafBlocks
@@ -101,5 +113,6 @@ pub mod ReturnedLemmas
 pub mod ComingBackLemmas
 mod Examples
 mod ComingBackExamples
+mod TitleExamples
 mod TableExamples
 mod AnchorExamples

@@ -9,7 +9,7 @@ use Rattle.std.proofs.lemmas.List.Sums.{fold-append}
 use Rattle.std.specs.List.{list_all, list_any}
 use Rattle.htmd_lexical.specs.CharacterClasses.{is_empty}
 use Rattle.htmd_lexical.proofs.Cases.{test}
-use Rattle.htmd_document.specs.Documents.{Block, Inline, text, code, anchor, link, line_break}
+use Rattle.htmd_document.specs.Documents.{Block, Inline, text, code, anchor, line_break}
 use Rattle.htmd_document.specs.Documents.{Inlines, no_inlines, inline}
 use Rattle.htmd_flow.specs.Contexts.{is_link}
 use Rattle.htmd_flow.specs.Nesting.{Wrapper, wrapper_of, shared, wrapped, one_inline}

@@ -44,10 +44,18 @@ abbrev mutual
   begins_seen no_inlines = false
   begins_seen (inline x rest) = is_seen x || (is_anchor x && begins_seen rest)
 
+-- something in the line shows, before a break
+abbrev pub goes_seen : Inlines → Bool
+goes_seen no_inlines = false
+goes_seen (inline x rest) = is_seen x || (not (is_break x) && goes_seen rest)
+
 pub record AreInLine (xs : Inlines) (ts : Simples) : Type 0 where
   pub tableless : have_table ts ≡ false
   pub preless : pres_among ts ≡ 0
   pub shows : begins_seen xs ≡ true → show false ts ≡ true
+  pub goes : goes_seen xs ≡ true → show false ts ≡ true
+  -- also in a heading
+  pub bold : begins_seen xs ≡ true → show true ts ≡ true
 
 -- where it begins with what shows
 pub record AreLineTrees (xs : Inlines) (ts : Simples) : Type 0 where
@@ -66,19 +74,38 @@ seen-trees own e bare = record {
 }
 
 pub none-in-line : AreInLine no_inlines none
-none-in-line = record { tableless = refl; preless = refl; shows = λ e. false-true e }
+none-in-line = record {
+  tableless = refl;
+  preless = refl;
+  shows = λ e. false-true e;
+  goes = λ e. false-true e;
+  bold = λ e. false-true e;
+}
 
 pub more-in-line : (x : Inline) (xs : Inlines) (tree : Simple) (ts : Simples)
     → has_table tree ≡ false → pres tree ≡ 0 → is_anchor x ≡ false
-    → (is_seen x ≡ true → shows false tree ≡ true)
+    → (is_seen x ≡ true → shows false tree ≡ true) → (is_seen x ≡ true → shows true tree ≡ true)
     → AreInLine xs ts
     → AreInLine (inline x xs) (more tree ts)
-more-in-line x xs tree ts t p a s rest = record {
+more-in-line x xs tree ts t p a s o rest = record {
   tableless = ap (λ b. b || have_table ts) t ∙ rest.tableless;
   preless = ap (λ k. min 2 (k + pres_among ts)) p ∙ ap (λ k. min 2 (0 + k)) rest.preless;
   shows = λ e. ap (λ b. b || show false ts) (s (own-seen (is_seen x) (is_anchor x) (begins_seen xs) a e));
+  goes = λ e. test (is_seen x) (λ h. ap (λ b. b || show false ts) (s h))
+      (λ h. ap (λ b. shows false tree || b) (rest.goes (later-seen (is_seen x) (is_break x) (goes_seen xs) h e))
+      ∙ or-true (shows false tree));
+  bold = λ e. ap (λ b. b || show true ts) (o (own-seen (is_seen x) (is_anchor x) (begins_seen xs) a e));
 }
   where
+    later-seen : (a b c : Bool) → a ≡ false → (a || (not b && c)) ≡ true → c ≡ true
+    later-seen true b c h e = true-false h
+    later-seen false true c h e = false-true e
+    later-seen false false c h e = e
+
+    or-true : (b : Bool) → (b || true) ≡ true
+    or-true true = refl
+    or-true false = refl
+
     own-seen : (a b c : Bool) → b ≡ false → (a || (b && c)) ≡ true → a ≡ true
     own-seen true b c h e = refl
     own-seen false true c h e = true-false h
@@ -92,6 +119,8 @@ anchor-in-line s xs id attributes ts rest = record {
   tableless = rest.tableless;
   preless = ap (λ k. min 2 (0 + k)) rest.preless;
   shows = rest.shows;
+  goes = rest.goes;
+  bold = rest.bold;
 }
 
 -- behind a break stand nodes with a line's end before them or without
@@ -101,6 +130,8 @@ break-in-line xs id us t p = record {
   tableless = t;
   preless = ap (λ k. min 2 (0 + k)) p;
   shows = λ e. false-true e;
+  goes = λ e. false-true e;
+  bold = λ e. false-true e;
 }
 
 pub format-preless : (id : ℕ) (f : Format) (attributes : List AttributePair) (content : Simples)
@@ -130,6 +161,20 @@ format-seen id Marked attributes content h = h
 format-seen id Small attributes content h = h
 format-seen id Keyboard attributes content h = h
 format-seen id (Abbreviation title) attributes content h = h
+
+pub format-bold : (id : ℕ) (f : Format) (attributes : List AttributePair) (content : Simples)
+    → show true content ≡ true → shows true (made id (format_role f) attributes content) ≡ true
+format-bold id Emphasis attributes content h = h
+format-bold id Strong attributes content h = h
+format-bold id Deleted attributes content h = h
+format-bold id Superscript attributes content h = h
+format-bold id Subscript attributes content h = h
+format-bold id Inserted attributes content h = h
+format-bold id Underlined attributes content h = h
+format-bold id Marked attributes content h = h
+format-bold id Small attributes content h = h
+format-bold id Keyboard attributes content h = h
+format-bold id (Abbreviation title) attributes content h = h
 
 -- ---- a settled line begins with what shows
 
@@ -181,3 +226,19 @@ mutual
   one-seen (anchor id) b fs other white breaks normal held = true-false other
   one-seen line_break b fs other white breaks normal held = true-false breaks
   one-seen (task d) b fs other white breaks normal held = false-true held
+
+first : (a b : Bool) → (a || false) ≡ true → (a || b) ≡ true
+first true b h = refl
+first false b h = false-true h
+
+-- so does what begins with what shows
+pub begun-goes : (xs : Inlines) → begins_seen xs ≡ true → goes_seen xs ≡ true
+begun-goes no_inlines h = h
+begun-goes (inline (anchor id) xs) h = begun-goes xs h
+begun-goes (inline (text s) xs) h = first (not (is_blank_text s)) (goes_seen xs) h
+begun-goes (inline (code s) xs) h = first (not (is_blank_text s)) (goes_seen xs) h
+begun-goes (inline (formatted f content) xs) h = first (begins_seen content) (goes_seen xs) h
+begun-goes (inline (link address title content) xs) h = first (begins_seen content) (goes_seen xs) h
+begun-goes (inline (image address title description) xs) h = refl
+begun-goes (inline line_break xs) h = false-true h
+begun-goes (inline (task d) xs) h = false-true h

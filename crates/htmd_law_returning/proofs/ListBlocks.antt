@@ -74,7 +74,8 @@ module _ (scripting is_rich : Bool) where
       (ap (shown_of scripting is_rich before) own.is
       ∙ (bullets-shown scripting is_rich before own.id own.inside (behind own.line own.rest) fresh
       ∙ ap (λ us. more (made own.id role.BulletList [] us) after) content))
-      (bullets-gives is_rich n own.id ts is_tight seen (grind (arith, nat_tests, fits)) within made_list)
+      (bullets-gives is_rich n own.id ts is_tight seen (grind (arith, nat_tests, fits)) within filled.0
+      made_list)
       own.others (suc own.line) order.1
   list-first (Some s) is_tight items d before f n fresh e settled fits numbers normal k o later =
       let seen : documents.Items = cut_items items in
@@ -112,7 +113,7 @@ module _ (scripting is_rich : Bool) where
       (start-fresh before (Some s)) (start-plain (Some s))
       ∙ ap (λ us. more (made own.id role.NumberedList (pairs_of_start (Some s)) us) after) content))
       (numbers-gives is_rich n own.id s (pairs_of_start (Some s)) ts is_tight seen
-      (grind (arith, nat_tests, fits)) within (start-nameless (Some s))
+      (grind (arith, nat_tests, fits)) within filled.0 (start-nameless (Some s))
       (start-kept s (low-of s (item_count (flat_items seen)) filled.1))
       made_list)
       own.others (suc own.line) order.1

@@ -1,6 +1,6 @@
 -- What lists and their items give.
-use Rattle.std.proofs.Common.{◌≡◌, ℕ, suc, Bool, true, false, ◌&&◌, List, [], ◌∷◌, ◌++◌}
-use Rattle.std.proofs.Common.{refl}
+use Rattle.std.proofs.Common.{◌≡◌, ℕ, suc, Bool, true, false, ◌&&◌, ◌||◌, List, [], ◌∷◌, ◌++◌}
+use Rattle.std.proofs.Common.{refl, sym}
 use Rattle.std.proofs.Common.{ap, ◌∙◌}
 use Rattle.std.proofs.Common.{not, None, Some}
 use Rattle.std.specs.Prelude.{nat_le}
@@ -13,7 +13,6 @@ use Rattle.htmd_lexical.specs.Characters.{line_feed}
 use Rattle.htmd_document.specs.DocumentLimits.{most_nested}
 use Rattle.htmd_document.specs.Documents.{Block, Blocks, no_blocks, block, paragraph}
 use Rattle.htmd_document.specs.Documents.{blocks_of}
-use Rattle.htmd_document.specs.TightItems.{is_paragraph}
 use Rattle.htmd_flow.specs.Flows.{node_of, nodes_of}
 use Rattle.htmd_flow.specs.Flows as flow
 use Rattle.htmd_flow.specs.Paragraphs.{Writing, fed, fed_all, blocks_in}
@@ -23,6 +22,18 @@ use Rattle.htmd_shown.specs.Roles as roles
 use Rattle.htmd_shown.specs.declared.role.Role.TheVariants as role
 use Rattle.htmd_shown.specs.Facts.{made, facts_of}
 use Rattle.htmd_shown.specs.SimpleTrees.{Simples, text, none, more}
+use Rattle.htmd_document_of_tree.specs.Seen.{seen, all_seen}
+use Rattle.htmd_lexical.proofs.Cases.{test}
+use Rattle.htmd_law_returning.specs.LastingAnchors.{are_unseen, items_unseen}
+use Rattle.std.proofs.Common.{◌+◌}
+use Rattle.htmd_law_returning.proofs.LocalAnchors.{comes_first, are_nameless}
+use Rattle.std.proofs.Common.{cond}
+use Rattle.htmd_law_returning.specs.LastingAnchors.{title_keeps, items_lead}
+use Rattle.htmd_law_returning.specs.NoAnchors.{items_have_no_anchors}
+use Rattle.htmd_law_returning.proofs.FirstTargets.{first-behind, line-first, line-seen-none, plain-nameless, zero-plus}
+use Rattle.htmd_law_returning.proofs.HomeAnchors.{none-in-items}
+use Rattle.htmd_law_returning.proofs.LocalAnchors.{come_first}
+use Rattle.std.proofs.lemmas.Bool.{and_parts, and_from}
 use Rattle.htmd_law_returning.proofs.BareLemmas.{has_no_name}
 use Rattle.htmd_document.specs.Documents.{Inlines, no_inlines, inline}
 use Rattle.htmd_document.specs.Documents.{Items, no_items, item, list}
@@ -32,17 +43,21 @@ use Rattle.htmd_flow.specs.Lists.{holds_paragraph}
 use Rattle.htmd_flow.specs.Levels.{list_of}
 use Rattle.htmd_shown.specs.Spaces.{no_gap}
 use Rattle.htmd_shown.specs.Kinds.{has}
+use Rattle.htmd_shown.specs.Showings.{show}
+use Rattle.htmd_document.specs.FlatDocuments.{flattened, flat_items}
+use Rattle.htmd_document.specs.NormalDocuments.{has_filled_item}
+use Rattle.htmd_document.specs.TightItems.{is_filled}
 use Rattle.htmd_law_returning.specs.SettledDocuments.{weight_in}
 use Rattle.htmd_law_returning.specs.SettledDocuments.{weight_of_items, said_in}
 use Rattle.htmd_law_returning.specs.SettledDocuments.{said_of_items}
-use Rattle.htmd_law_returning.proofs.LeanTrees.{heavy-tree}
+use Rattle.htmd_law_returning.proofs.LeanTrees.{heavy-tree, line-unseen}
 use Rattle.htmd_law_returning.proofs.LineParts.{Numbers, parts_in}
 use Rattle.htmd_law_returning.proofs.RunLemmas.{in_line}
 use Rattle.htmd_law_returning.proofs.StartLemmas.{clean, true-false, false-true}
 use Rattle.htmd_law_returning.proofs.StartLemmas.{Mode, in_item, is_flat_mode}
 use Rattle.htmd_law_returning.proofs.CostLemmas.{AllSpend, spend-element, spend-none, spend-more, spend-text}
 use Rattle.htmd_law_returning.proofs.CostLemmas.{spend-past}
-use Rattle.htmd_law_returning.proofs.ListLemmas.{made_items}
+use Rattle.htmd_law_returning.proofs.ListLemmas.{made_items, flat-filled}
 use lib.Utf8.{encode}
 use Rattle.htmd_law_returning.proofs.ReadyLemmas.{here, parts_of, no-box, IsReady, line-ready, edge-fed, all-done}
 use Rattle.htmd_law_returning.proofs.ReadyLemmas.{ready-flat, apart-fed}
@@ -64,6 +79,9 @@ pub record AreItems (is_rich : Bool) (n : ℕ) (is_tight : Bool) (items : Items)
   pub sound : AreSound ts (lines_among items)
   pub spent : AllSpend (weight_of_items items) (said_of_items items) ts
   pub waits : pending_all [] ts ≡ []
+  pub shows : is_rich ≡ true → has_filled_item (flat_items items) ≡ true → show false ts ≡ true
+  pub leads : items_lead items ≡ true → come_first ts ≡ true
+  pub unseen : items_unseen items ≡ true → all_seen ts ≡ 0
   pub gives : flow.items_of (nodes_of (local_all [] ts)) (here is_rich n) ≡ made_items is_tight items
   pub first : flow.behind_item (nodes_of (local_all [] ts)) (here is_rich n) ≡ []
   pub before : (k : ℕ) → flow.before_items (nodes_of (local_all [] ts)) (here is_rich k) ≡ []
@@ -108,12 +126,14 @@ module _ (is_rich : Bool) (n id : ℕ) where
 
   pub more-items : (content ts : Simples) (bs : Blocks) (is_tight : Bool) (rest : Items)
       → AreSound content (lines_in bs) → AllSpend (weight_in bs) (said_in bs) content
-      → pending_all [] content ≡ []
+      → pending_all [] content ≡ [] → (is_rich ≡ true → is_filled bs ≡ true → show false content ≡ true)
+      → (title_keeps bs ≡ true → come_first content ≡ true)
+      → (are_unseen bs ≡ true → all_seen content ≡ 0)
       → list_any (has roles.is_paragraph) (list_of content) ≡ (not is_tight && holds_paragraph bs)
       → flow.blocks_of true (in_one_item (local_all [] content)) ≡ bs → AreItems is_rich n is_tight rest ts
       → AreItems is_rich n is_tight (item bs rest)
       (more (made id role.Item [] content) (more (text (line_feed ∷ [])) ts))
-  more-items content ts bs is_tight rest sound spent waits paragraphs blocks later =
+  more-items content ts bs is_tight rest sound spent waits shown leads unseen paragraphs blocks later =
       let tree : Simple = made id role.Item [] content in
       let inside : Simples = local_all [] content in
       let is : local_all [] (more tree (more (text (line_feed ∷ [])) ts))
@@ -128,6 +148,24 @@ module _ (is_rich : Bool) (n id : ℕ) where
             (spend-past (weight_of_items rest) (text (line_feed ∷ [])) ts (spend-text (line_feed ∷ []))
             later.spent);
         waits = node-waits [] tree ts waits ∙ later.waits;
+        shows = λ r h. either-shows (is_filled (flattened bs)) (has_filled_item (flat_items rest)) (show false content)
+            (show false (more (text (line_feed ∷ [])) ts)) h (λ k. shown r (sym (flat-filled bs) ∙ k))
+            (λ k. line-unseen false ts ∙ later.shows r k);
+        leads = λ h.
+            let behind : Bool = items_have_no_anchors rest in
+            let p = and_parts (title_keeps bs) (cond (are_unseen bs) (items_lead rest) behind) h in
+            let lines : Simples = more (text (line_feed ∷ [])) ts in
+            test (are_unseen bs)
+            (λ q. and_from (comes_first tree) (cond (nat_le (seen tree) 0) (come_first lines) (are_nameless lines))
+            (leads p.0) (ap (λ k. cond (nat_le k 0) (come_first lines) (are_nameless lines)) (unseen q)
+            ∙ (line-first ts ∙ later.leads (sym (ap (λ b. cond b (items_lead rest) behind) q) ∙ p.1))))
+            (λ q. first-behind tree lines (leads p.0) (plain-nameless ts (lines_among rest) later.sound
+            (none-in-items rest (sym (ap (λ b. cond b (items_lead rest) behind) q) ∙ p.1))));
+        unseen = λ h.
+            let p = and_parts (are_unseen bs) (items_unseen rest) h in
+            let lines : Simples = more (text (line_feed ∷ [])) ts in
+            ap (λ k. k + all_seen lines) (unseen p.0)
+            ∙ (zero-plus (all_seen lines) ∙ (line-seen-none ts ∙ later.unseen p.1));
         gives = ap (λ us. flow.items_of (nodes_of us) (here is_rich n)) is
             ∙ more-gives (facts_of content) inside (local_all [] ts) bs is_tight rest
             (kinds-local roles.is_paragraph paragraph-inner [] content ∙ paragraphs) blocks later.gives later.first;
@@ -136,6 +174,13 @@ module _ (is_rich : Bool) (n id : ℕ) where
         before = λ k. ap (λ us. flow.before_items (nodes_of us) (here is_rich k)) is
             ∙ more-before (facts_of content) inside (more (text (line_feed ∷ [])) (local_all [] ts)) k;
       }
+    where
+      either-shows : (a b s t : Bool) → (a || b) ≡ true → (a ≡ true → s ≡ true)
+          → (b ≡ true → t ≡ true)
+          → (s || t) ≡ true
+      either-shows true b s t h f g = ap (λ x. x || t) (f refl)
+      either-shows false b true t h f g = refl
+      either-shows false b false t h f g = g h
 
   pub none-items : (is_tight : Bool) → AreItems is_rich n is_tight no_items none
   unfolding node_of
@@ -143,6 +188,9 @@ module _ (is_rich : Bool) (n id : ℕ) where
     sound = sound-none;
     spent = spend-none;
     waits = refl;
+    shows = λ r h. false-true h;
+    leads = λ h. refl;
+    unseen = λ h. refl;
     gives = refl;
     first = refl;
     before = λ k. refl;
@@ -205,11 +253,11 @@ list-fed mode w done b ps h =
 
 module _ (is_rich : Bool) (n id : ℕ) where
   pub bullets-gives : (content : Simples) (is_tight : Bool) (items : Items) → nat_le most_nested n ≡ false
-      → AreItems is_rich (suc n) is_tight items content
+      → AreItems is_rich (suc n) is_tight items content → has_filled_item (flat_items items) ≡ true
       → lists.lists_if_filled n None (made_items is_tight items) ≡ whole (list None is_tight items) ∷ []
       → GivesBlock is_rich n (made id role.BulletList [] (more (text (line_feed ∷ [])) content))
       (list None is_tight items)
-  bullets-gives content is_tight items free all made_list = record {
+  bullets-gives content is_tight items free all filled made_list = record {
     sound = sound-element id role.BulletList [] (more (text (line_feed ∷ [])) content) (lines_among items) refl
         refl (sound-text (line_feed ∷ []) content (lines_among items) all.sound);
     spent = spend-element (weight_of_items items) id role.BulletList
@@ -219,7 +267,9 @@ module _ (is_rich : Bool) (n id : ℕ) where
         (spend-text (line_feed ∷ [])) all.spent);
     kind = refl;
     untitled = refl;
-    lean = heavy-tree refl;
+    lean = heavy-tree refl refl (λ r. line-unseen false content ∙ all.shows r filled)
+        (λ k. line-seen-none content ∙ all.unseen k)
+        (λ k. line-first content ∙ all.leads k);
     waits = line-waits content ∙ all.waits;
     led = λ ids e. false-true e;
     gives = λ mode w done h may ts.
@@ -232,12 +282,13 @@ module _ (is_rich : Bool) (n id : ℕ) where
 
   pub numbers-gives : (s : ℕ) (attributes : List AttributePair) (content : Simples) (is_tight : Bool) (items : Items)
       → nat_le most_nested n ≡ false → AreItems is_rich (suc n) is_tight items content
-      → has_no_name attributes ≡ true → flow.start_of attributes ≡ pos s
+      → has_filled_item (flat_items items) ≡ true → has_no_name attributes ≡ true
+      → flow.start_of attributes ≡ pos s
       → lists.lists_if_filled n (Some (pos s)) (made_items is_tight items)
       ≡ whole (list (Some s) is_tight items) ∷ []
       → GivesBlock is_rich n (made id role.NumberedList attributes (more (text (line_feed ∷ [])) content))
       (list (Some s) is_tight items)
-  numbers-gives s attributes content is_tight items free all nameless start made_list = record {
+  numbers-gives s attributes content is_tight items free all filled nameless start made_list = record {
     sound = sound-element id role.NumberedList attributes (more (text (line_feed ∷ [])) content)
         (lines_among items) refl nameless
         (sound-text (line_feed ∷ []) content (lines_among items) all.sound);
@@ -247,7 +298,10 @@ module _ (is_rich : Bool) (n id : ℕ) where
         (spend-text (line_feed ∷ [])) all.spent);
     kind = refl;
     untitled = refl;
-    lean = heavy-tree refl;
+    lean = heavy-tree refl refl (λ r. line-unseen false content ∙ all.shows r filled)
+        (λ k. line-seen-none content ∙ all.unseen k)
+        (λ k. and_from (has_no_name attributes) (come_first (more (text (line_feed ∷ [])) content)) nameless
+        (line-first content ∙ all.leads k));
     waits = line-waits content ∙ all.waits;
     led = λ ids e. false-true e;
     gives = λ mode w done h may ts.

@@ -70,7 +70,7 @@ before-filled (element name attributes content) rest =
     rest
 before-filled b rest = refl
 
-flat-filled : (bs : Blocks) → is_filled (flattened bs) ≡ is_filled bs
+pub flat-filled : (bs : Blocks) → is_filled (flattened bs) ≡ is_filled bs
 flat-filled no_blocks = refl
 flat-filled (block b bs) = before-filled b (flattened bs)
 

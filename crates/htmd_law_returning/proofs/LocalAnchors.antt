@@ -383,7 +383,7 @@ nameless-place (element id role.Target facts attributes none) h =
 nameless-place t h = refl
 
 mutual
-  nameless-first : (t : Simple) → is_nameless t ≡ true → comes_first t ≡ true
+  pub nameless-first : (t : Simple) → is_nameless t ≡ true → comes_first t ≡ true
   nameless-first (text s) h = h
   nameless-first (image address attributes) h = h
   nameless-first (formula tex is_alone attributes) h = h

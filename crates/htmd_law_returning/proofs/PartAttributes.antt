@@ -1,5 +1,5 @@
 -- The attributes of parts of tables: a page keeps them, and they say nothing else.
-use Rattle.std.proofs.Common.{◌≡◌, ℕ, Bool, true, false, not, ◌&&◌, ◌||◌, List, [], ◌∷◌, Option}
+use Rattle.std.proofs.Common.{◌≡◌, ℕ, Bool, true, false, ◌&&◌, ◌||◌, List, [], ◌∷◌, Option}
 use Rattle.std.proofs.Common.{Some, None, codes}
 use Rattle.std.proofs.Common.{refl, sym, ap, ◌∙◌}
 use Rattle.std.specs.List.{list_any}
@@ -12,15 +12,15 @@ use Rattle.htmd_document.specs.Documents.{BlockAttribute}
 use Rattle.htmd_document.specs.declared.document.AttributeName.{AttributeName}
 use Rattle.htmd_document.specs.declared.document.AttributeName.TheVariants as attribute
 use Rattle.htmd_document.specs.Tags.{attribute_name}
-use Rattle.htmd_shown.specs.Attributes.{value_of, words, number, row_span, span_between}
+use Rattle.htmd_flow.specs.Languages.{near_languages}
+use Rattle.htmd_shown.specs.Attributes.{value_of, words}
 use Rattle.htmd_shown.specs.ClassWords.{has_class, katex_words, wiki_words}
 use Rattle.htmd_shown.specs.ClassWords.{katex_source_words, wiki_source_words}
 use Rattle.htmd_shown.specs.Repeats.{is_copied}
 use Rattle.htmd_shown.specs.Roles.{is_among}
 use Rattle.htmd_shown.specs.Shown.{is_for_layout, begins_with_layout}
-use Rattle.htmd_law_rendering.specs.RawTags.{pair}
 use Rattle.htmd_law_rendering.specs.RenderedTrees.{pairs_of_element}
-use Rattle.htmd_law_returning.specs.SettledTables.{is_same_name, are_same, is_row_span, takes_one_row}
+use Rattle.htmd_law_returning.specs.SettledTables.{is_same_name, are_same}
 use Rattle.htmd_law_returning.proofs.BareLemmas.{has_no_name}
 use Rattle.htmd_law_returning.proofs.StartLemmas.{false-true}
 
@@ -98,6 +98,16 @@ pub nameless : (attributes : List BlockAttribute) → has_no_name (pairs_of_elem
 nameless attributes =
     rw (other-value (codes "id") attributes refl, other-value (codes "name") attributes refl) refl
 
+-- so no language
+pub silent : (attributes : List BlockAttribute) → near_languages (pairs_of_element attributes) ≡ []
+silent attributes =
+    rw (
+      other-value (codes "class") attributes refl,
+      other-value (codes "data-lang") attributes refl,
+      other-value (codes "data-language") attributes refl,
+      other-value (codes "data-code-language") attributes refl,
+    ) refl
+
 pub layoutless : (attributes : List BlockAttribute) → is_for_layout (pairs_of_element attributes) ≡ false
 layoutless attributes =
     ap (λ o. begins_with_layout (words (unwrap_or o []))) (other-value (codes "role") attributes refl)
@@ -110,24 +120,3 @@ uncopied (Some b) attributes =
     || (has_class wiki_words (pairs_of_element attributes) && has_class wiki_source_words b))
     (classless katex_words attributes)
     ∙ ap (λ x. x && has_class wiki_source_words b) (classless wiki_words attributes)
-
--- ---- one row
-
-pub one-row : (attributes : List BlockAttribute) → takes_one_row attributes ≡ true
-    → row_span (pairs_of_element attributes) ≡ 1
-one-row attributes h = ap (λ o. span_between 0 65534 (number (unwrap_or o []))) (no-rows attributes h)
-  where
-    rest-value : (name : AttributeName) (value : List ℕ) (ps : List AttributePair) → not (is_row_span name) ≡ true
-        → value_of (codes "rowspan") (pair (attribute_name name) value ∷ ps) ≡ value_of (codes "rowspan") ps
-    rest-value attribute.Open value ps h = refl
-    rest-value attribute.Border value ps h = refl
-    rest-value attribute.ColumnSpan value ps h = refl
-    rest-value attribute.RowSpan value ps h = false-true h
-    rest-value attribute.Align value ps h = refl
-
-    no-rows : (xs : List BlockAttribute) → takes_one_row xs ≡ true
-        → value_of (codes "rowspan") (pairs_of_element xs) ≡ None
-    no-rows [] h = refl
-    no-rows (a ∷ rest) h =
-        let parts = and_parts (not (is_row_span a.name)) (takes_one_row rest) h in
-        rest-value a.name a.value (pairs_of_element rest) parts.0 ∙ no-rows rest parts.1

@@ -8,7 +8,6 @@ use Rattle.std.specs.Str.{chars}
 use Rattle.std.proofs.lemmas.Bool.{and_parts, and_from}
 use Rattle.std.proofs.lemmas.Bool.Decides.{nat_tests}
 use Rattle.htmd_lexical.specs.AttributePairs.{AttributePair}
-use Rattle.htmd_document.specs.Documents.{anchor}
 use Rattle.htmd_document.specs.NormalInlines.{is_text, is_line, has_double_space}
 use Rattle.htmd_shown.specs.declared.role.Role.{Role}
 use Rattle.htmd_shown.specs.declared.role.Role.TheVariants as role

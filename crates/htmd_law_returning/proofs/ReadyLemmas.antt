@@ -6,7 +6,7 @@ use Rattle.std.proofs.Common.{◌==◌, length, sym}
 use Rattle.std.specs.Str.{chars}
 use Rattle.std.proofs.lemmas.List.{append-nil}
 use Rattle.htmd_lexical.specs.Characters.{line_feed}
-use Rattle.htmd_document.specs.Documents.{Block, block}
+use Rattle.htmd_document.specs.Documents.{Block}
 use Rattle.htmd_flow.specs.Contexts.{Context, bare_in}
 use Rattle.htmd_flow.specs.declared.paragraphs.Met.TheVariants as met
 use Rattle.htmd_flow.specs.Flows.{node_of, nodes_of, flow_all}
@@ -16,7 +16,7 @@ use Rattle.htmd_flow.specs.Parts.{Part, run, edge, whole}
 use Rattle.htmd_shown.specs.SimpleTrees.{Simples, text, none, more}
 use Rattle.htmd_law_returning.proofs.PageLemmas.{and-false}
 use Rattle.htmd_law_returning.proofs.StartLemmas.{clean}
-use Rattle.htmd_law_returning.proofs.StartLemmas.{Mode, in_item, is_flat_mode}
+use Rattle.htmd_law_returning.proofs.StartLemmas.{Mode, is_flat_mode}
 use lib.Utf8.{encode}
 
 -- so many quotes around

@@ -19,6 +19,11 @@ use Rattle.htmd_shown.specs.SimpleTrees.{Simple, Simples, text, none, more}
 use Rattle.htmd_shown.specs.Kinds.{has}
 use Rattle.htmd_shown.specs.Roles.{is_paragraph}
 use Rattle.std.proofs.Common.{◌||◌}
+use Rattle.htmd_document_of_tree.specs.Seen.{all_seen}
+use Rattle.htmd_law_returning.specs.LastingAnchors.{are_unseen}
+use Rattle.htmd_law_returning.specs.LastingAnchors.{title_keeps}
+use Rattle.htmd_law_returning.proofs.FirstTargets.{first-more, unseen-more}
+use Rattle.htmd_law_returning.proofs.LocalAnchors.{come_first}
 use Rattle.htmd_law_returning.specs.SettledDocuments.{weight_in, weight_of_block}
 use Rattle.htmd_law_returning.specs.SettledDocuments.{said_in, said_of_block}
 use Rattle.htmd_law_returning.proofs.TaskLemmas.{may-always}
@@ -41,7 +46,7 @@ use Rattle.htmd_law_returning.proofs.LocalAnchors.{local_all, pending_all}
 use Rattle.htmd_law_returning.proofs.SoundBlocks.{AreSound, sound-none}
 use Rattle.htmd_law_returning.proofs.SoundNodes.{sound-text, sound-more}
 use Rattle.htmd_law_returning.proofs.KindLemmas.{node-local, node-waits}
-use Rattle.htmd_law_returning.specs.LastingAnchors.{stand_alone}
+use Rattle.htmd_document.specs.LoneAnchors.{stand_alone}
 use Rattle.htmd_law_returning.proofs.AloneLemmas.{alone}
 use Rattle.htmd_law_returning.proofs.FlowLemmas.{is_code}
 use Rattle.htmd_law_returning.proofs.StartLemmas.{is_flat_mode, false-true}
@@ -94,7 +99,9 @@ module _ (scripting is_rich : Bool) where
     pub waits : pending_all [] (shown_of scripting is_rich before f) ≡ left
     pub spent : AllSpend (weight_in d) (said_in d) (shown_of scripting is_rich before f)
     pub paragraphs : list_any (has is_paragraph) (list_of (shown_of scripting is_rich before f)) ≡ holds_paragraph d
-    pub lean : AreLeanTrees d (shown_of scripting is_rich before f)
+    pub lean : AreLeanTrees is_rich d (shown_of scripting is_rich before f)
+    pub first : title_keeps d ≡ true → come_first (shown_of scripting is_rich before f) ≡ true
+    pub unseen : are_unseen d ≡ true → all_seen (shown_of scripting is_rich before f) ≡ 0
     pub ready : (mode : Mode) (w : Writing) (done : List documents.Block) → IsReady mode w done
         → May (begins_boxed d) mode done
         → IsReady mode (fed_all w (parts_of is_rich n (local_all [] (shown_of scripting is_rich before f))))
@@ -183,8 +190,11 @@ module _ (scripting is_rich : Bool) where
         paragraphs = ap (λ us. list_any (has is_paragraph) (list_of us)) is
             ∙ (ap (λ x. x || list_any (has is_paragraph) (list_of ts)) own.kind
             ∙ ap (λ x. tight.is_paragraph b || x) later.paragraphs);
-        lean = subst (λ (us : Simples). AreLeanTrees (documents.block b after) us) (sym is)
-            (more-lean b after tree (more (text (line_feed ∷ [])) ts) own.lean (line-lean after ts later.lean));
+        lean = subst (λ (us : Simples). AreLeanTrees is_rich (documents.block b after) us) (sym is)
+            (more-lean is_rich b after tree (more (text (line_feed ∷ [])) ts) own.lean
+            (line-lean is_rich after ts later.lean));
+        first = λ e. ap come_first is ∙ first-more b after tree ts own.lean.leads later.sound later.first e;
+        unseen = λ e. ap all_seen is ∙ unseen-more b after tree ts own.lean.leads later.unseen e;
         ready = λ mode w done h may.
             subst (λ (u : Writing). IsReady mode u (done ++ b ∷ later.kept))
             (sym (ap (λ us. fed_all w (parts_of is_rich n us))
@@ -230,7 +240,10 @@ module _ (scripting is_rich : Bool) where
         waits = ap (pending_all []) is;
         spent = subst (λ (us : Simples). AllSpend 0 (λ w. w) us) (sym is) spend-none;
         paragraphs = ap (λ us. list_any (has is_paragraph) (list_of us)) is;
-        lean = subst (λ (us : Simples). AreLeanTrees documents.no_blocks us) (sym is) none-lean;
+        lean = subst (λ (us : Simples). AreLeanTrees is_rich documents.no_blocks us) (sym is)
+            (none-lean is_rich);
+        first = λ e. ap come_first is;
+        unseen = λ e. ap all_seen is;
         ready = λ mode w done h may. subst (λ (ps : List Part). IsReady mode (fed_all w ps) (done ++ [])) (sym gives)
             (subst (λ (bs : List documents.Block). IsReady mode w bs) (sym (append-nil done)) h);
         nothing = λ e. is;

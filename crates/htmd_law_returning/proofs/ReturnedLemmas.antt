@@ -33,7 +33,7 @@ use Rattle.htmd_law_returning.specs.ReturningLaws.{whole_sight, SettledReturns}
 use Rattle.htmd_law_returning.specs.SettledDocuments.{are_settled, have_bare_headers, is_light, said}
 use Rattle.htmd_law_returning.proofs.BlockTrees.{page_blocks, cut_blocks, page-seen, trees_in}
 use Rattle.htmd_law_returning.proofs.ElementForms.{settled-alone}
-use Rattle.htmd_law_returning.proofs.ElementTrees.{elements-from}
+use Rattle.htmd_law_returning.proofs.ElementPages.{elements-from}
 use Rattle.htmd_law_returning.proofs.FlatLemmas.{flat-changed, flattened-any}
 use Rattle.htmd_law_returning.proofs.ReturnedBlocks.{AreReturned, list-in}
 use Rattle.htmd_law_returning.proofs.TaskLemmas.{unboxed, may-always}
@@ -62,7 +62,8 @@ use Rattle.std.proofs.Common.{List}
 use Rattle.htmd_shown.specs.Shown.{followed_by}
 use Rattle.htmd_document_of_tree.specs.Anchors.{anchored}
 use Rattle.htmd_document_of_tree.specs.FirstPieces.{pieced_all}
-use Rattle.htmd_law_returning.specs.LastingAnchors.{Line, lines_in, blocks_keep, anchors_stay}
+use Rattle.htmd_law_returning.specs.LastingAnchors.{Line, lines_in, anchors_stay}
+use Rattle.htmd_law_returning.proofs.KeptBlocks.{blocks_keep}
 use Rattle.htmd_law_returning.proofs.LocalAnchors.{local_all, pending_all, last_of}
 use Rattle.htmd_law_returning.proofs.StayLemmas.{stay-keep}
 use Rattle.htmd_law_returning.proofs.SoundBlocks.{AreSound, sound-none}

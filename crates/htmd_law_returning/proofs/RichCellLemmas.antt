@@ -1,6 +1,6 @@
 -- What the cells and rows of a rich page's table give: cells of a paragraph at most that take no more than one place.
 use Rattle.std.proofs.Common.{◌≡◌, ℕ, Bool, true, false, not, ◌||◌, List, []}
-use Rattle.std.proofs.Common.{◌∷◌, filter, map, drop, refl, ap, ◌∙◌, None}
+use Rattle.std.proofs.Common.{◌∷◌, filter, map, drop, refl, ap, ◌∙◌}
 use Rattle.std.specs.List.{list_all, list_any}
 use Rattle.std.specs.Str.{chars}
 use Rattle.htmd_lexical.specs.AttributePairs.{AttributePair}
@@ -17,7 +17,7 @@ use Rattle.htmd_flow.specs.Parts.{Part}
 use Rattle.htmd_flow.specs.TableElements as elements
 use Rattle.htmd_flow.specs.Tables as tables
 use Rattle.htmd_shown.specs.Attributes.{alignment, wide_span, row_span}
-use Rattle.htmd_shown.specs.Showings.{show}
+use Rattle.htmd_shown.specs.Showings.{show, shows}
 use Rattle.htmd_shown.specs.declared.facts.Facts.{Facts}
 use Rattle.htmd_shown.specs.SimpleTrees.{Simple, Simples, text, none, more, element}
 use Rattle.htmd_shown.specs.declared.role.Role.{Role}
@@ -85,6 +85,32 @@ is_some c = not (has_none c)
 abbrev pub cells_among : Simples → List flow.Node
 cells_among ts = filter flow.is_cell (nodes_of ts)
 
+pub or-true : (b : Bool) → (b || true) ≡ true
+or-true true = refl
+or-true false = refl
+
+-- first or later
+later-true : (a b c : Bool) → (c ≡ true → b ≡ true) → c ≡ true → (a || b) ≡ true
+later-true a b c later k = ap (λ x. a || x) (later k) ∙ or-true a
+
+either-true : (a b c : Bool) → (c ≡ true → b ≡ true) → (a || c) ≡ true → (a || b) ≡ true
+either-true true b c later k = refl
+either-true false b c later k = later k
+
+abbrev some_cell : Simples → Bool
+some_cell ts = list_any (λ (m : flow.Node). flow.content_shows m.tree) (cells_among ts)
+
+-- something shows where it does in a cell
+pub cells-show : (ts : Simples) → some_cell ts ≡ true → show false ts ≡ true
+unfolding node_of
+cells-show none h = false-true h
+cells-show (more (element id role.Cell facts attributes content) ts) h =
+    either-true (show false content) (show false ts) (some_cell ts) (cells-show ts) h
+cells-show (more (element id role.HeaderCell facts attributes content) ts) h =
+    either-true (show false content) (show false ts) (some_cell ts) (cells-show ts) h
+cells-show (more tree ts) h =
+    later-true (shows false tree) (show false ts) (some_cell ts) (cells-show ts) h
+
 aligned-one-column : (a : Alignment) → wide_span (pairs_of_alignment a) ≡ 1
 aligned-one-column align.None = refl
 aligned-one-column align.Left = refl
@@ -112,10 +138,6 @@ pub record AreRichCells (is_rich : Bool) (n : ℕ) (is_header : Bool) (alignment
   pub spanless : list_any (λ (m : flow.Node). flow.may_span m.tree) (cells_among ts) ≡ false
   pub shows : list_any is_some cells ≡ true
       → list_any (λ (m : flow.Node). flow.content_shows m.tree) (cells_among ts) ≡ true
-
-or-true : (b : Bool) → (b || true) ≡ true
-or-true true = refl
-or-true false = refl
 
 module _ (is_rich : Bool) (n : ℕ) where
   pub no-rich-cells : (is_header : Bool) (alignments : List Alignment)

@@ -24,7 +24,6 @@ use Rattle.htmd_shown.specs.declared.role.Role.TheVariants as role
 use Rattle.htmd_shown.specs.Facts.{made}
 use Rattle.htmd_shown.specs.Facts.{leaves_among}
 use Rattle.htmd_shown.specs.Roles.{is_paragraph}
-use Rattle.htmd_shown.specs.Shown.{shown}
 use Rattle.htmd_shown.specs.SimpleTrees.{Simple, Simples, none, more}
 use Rattle.htmd_shown.specs.SimpleTrees as simple
 use Rattle.htmd_shown.specs.Kinds.{has}
@@ -54,7 +53,7 @@ use Rattle.htmd_law_returning.proofs.PageLemmas.{from-text, IsFresh}
 use Rattle.htmd_law_returning.proofs.TextLemmas.{IsLine, text-line}
 use Rattle.htmd_law_returning.proofs.TreesLemmas.{spelled_line, line_trees, begins_apart, line-end-apart}
 use Rattle.htmd_law_returning.proofs.BreakLemmas.{IsBreak, line-filled}
-use Rattle.htmd_law_returning.proofs.StandLemmas.{Stands, Lacks, beside, lacks-end}
+use Rattle.htmd_law_returning.proofs.StandLemmas.{Stands, Lacks, lacks-end}
 use Rattle.htmd_law_returning.proofs.StartLemmas.{true-false, false-true}
 use Rattle.htmd_law_returning.proofs.CostLemmas.{AllSpend}
 use Rattle.htmd_law_returning.proofs.CostLemmas.{leaves-behind}

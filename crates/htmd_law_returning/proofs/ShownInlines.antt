@@ -4,12 +4,10 @@ use Rattle.std.proofs.Common.{refl, ap, ◌∙◌}
 use Rattle.std.proofs.Common.{codes, Option, Some, None}
 use Rattle.std.proofs.Common.{cond}
 use Rattle.std.proofs.Common.{◌||◌}
-use Rattle.std.proofs.Common.{not}
 use Rattle.std.proofs.lemmas.Bool.{and_parts}
 use Rattle.htmd_lexical.specs.AttributePairs.{AttributePair}
 use Rattle.htmd_nodes.specs.NumberedTrees.{NumberedForest}
 use Rattle.htmd_nodes.specs.NumberedTrees as page
-use Rattle.htmd_document.specs.Documents.{text, image}
 use Rattle.htmd_document.specs.Formats.{Format, Emphasis, Strong, Deleted, Superscript, Subscript, Inserted, Underlined}
 use Rattle.htmd_document.specs.Formats.{Marked, Small, Keyboard, Abbreviation}
 use Rattle.htmd_shown.specs.Marks as marks

@@ -30,7 +30,6 @@ use Rattle.htmd_shown.specs.Attributes.{is_to_part}
 use Rattle.htmd_shown.specs.Facts.{made}
 use Rattle.htmd_shown.specs.Facts.{facts_of}
 use Rattle.htmd_shown.specs.Roles.{is_paragraph}
-use Rattle.htmd_shown.specs.Shown.{shown}
 use Rattle.htmd_shown.specs.Shown.{marked, raised}
 use Rattle.htmd_shown.specs.ShownTexts.{shown_text}
 use Rattle.htmd_shown.specs.SimpleTrees.{Simple, Simples, none, more, element}
@@ -90,10 +89,10 @@ use Rattle.htmd_law_returning.proofs.CostLemmas.{spend-element, spend-carrying, 
 use Rattle.htmd_law_returning.proofs.CostLemmas.{inline-leaves, count-light, spend-words}
 use Rattle.htmd_document_of_tree.specs.Limits.{characters}
 use Rattle.htmd_shown.specs.Pieces.{greatest_count}
-use Rattle.htmd_law_returning.proofs.FormatLemmas.{place, Covers, covers-more, covers-link, inside-formats}
+use Rattle.htmd_law_returning.proofs.FormatLemmas.{Covers, covers-more, covers-link, inside-formats}
 use Rattle.htmd_law_returning.proofs.FormatLemmas.{format-tableless}
 use Rattle.htmd_law_returning.proofs.LineFactLemmas.{none-in-line, more-in-line}
-use Rattle.htmd_law_returning.proofs.LineFactLemmas.{format-preless, format-seen}
+use Rattle.htmd_law_returning.proofs.LineFactLemmas.{format-preless, format-seen, format-bold}
 use Rattle.htmd_law_returning.proofs.FormatLemmas.{format_role, IsInlineRole, format-inline, format-bare}
 use Rattle.htmd_law_returning.proofs.FormatLemmas.{format-spent, format-unbroken}
 use Rattle.htmd_law_returning.proofs.InlineLemmas.{IsFree, free-more, free-link, both-fed}
@@ -181,7 +180,7 @@ module _ (scripting is_rich : Bool) where
         seen = ap (λ x. marks.letters s ++ x) rest.seen;
         pictured = rest.pictured;
         lined = rest.lined;
-        plain = more-in-line (text s) xs (simple.text s) ts refl refl refl (λ e. e) rest.plain;
+        plain = more-in-line (text s) xs (simple.text s) ts refl refl refl (λ e. e) (λ e. e) rest.plain;
       })
   line-shown-at (inline (code s) xs) k b h before f around fs covers free fresh e normal settled formats light o =
       let good = normal-one b fs (code s) xs normal in
@@ -241,7 +240,8 @@ module _ (scripting is_rich : Bool) where
             (λ x. marks.letters s ++ x) rest.seen;
         pictured = rest.pictured;
         lined = rest.lined;
-        plain = more-in-line (code s) xs tree ts refl refl refl (λ e. ap (λ x. x || false) e) rest.plain;
+        plain = more-in-line (code s) xs tree ts refl refl refl (λ e. ap (λ x. x || false) e)
+            (λ e. ap (λ x. x || false) e) rest.plain;
       })
   line-shown-at (inline (formatted m c) xs) k b h before f around fs covers free fresh e normal settled formats light
       o =
@@ -323,7 +323,8 @@ module _ (scripting is_rich : Bool) where
         lined = ap (λ x. x || list_any (has is_paragraph) (list_of ts)) kind.lined ∙ rest.lined;
         plain = more-in-line (formatted m c) xs tree ts (format-tableless found.id m pairs content
             within.plain.tableless) (format-preless found.id m pairs content within.plain.preless) refl
-            (λ e. format-seen found.id m pairs content (within.plain.shows e)) rest.plain;
+            (λ e. format-seen found.id m pairs content (within.plain.shows e))
+            (λ e. format-bold found.id m pairs content (within.plain.bold e)) rest.plain;
       })
   line-shown-at (inline (link a t c) xs) k b h before f around fs covers free fresh e normal settled formats light o =
       let away : Bool = not (is_own_place a c) in
@@ -411,7 +412,7 @@ module _ (scripting is_rich : Bool) where
         pictured = ap (λ x. x || marks.have_image ts) within.pictured ∙ ap (λ x. have_images c || x) rest.pictured;
         lined = rest.lined;
         plain = more-in-line (link a t c) xs tree ts within.plain.tableless within.plain.preless
-            refl within.plain.shows rest.plain;
+            refl within.plain.shows within.plain.bold rest.plain;
       })
   line-shown-at (inline (image a t d) xs) k b h before f around fs covers free fresh e normal settled formats light o =
       let good = normal-one b fs (image a t d) xs normal in
@@ -459,7 +460,7 @@ module _ (scripting is_rich : Bool) where
             (λ x. marks.letters d ++ x) rest.seen;
         pictured = refl;
         lined = rest.lined;
-        plain = more-in-line (image a t d) xs tree ts refl refl refl (λ e. refl) rest.plain;
+        plain = more-in-line (image a t d) xs tree ts refl refl refl (λ e. refl) (λ e. refl) rest.plain;
       })
   line-shown-at (inline (anchor s) xs) k b h before f around fs covers free fresh e normal settled formats light o =
       let good = normal-one b fs (anchor s) xs normal in

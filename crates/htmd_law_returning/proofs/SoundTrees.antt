@@ -32,8 +32,8 @@ use Rattle.htmd_document_of_tree.specs.declared.leadings.Layout.{Layout}
 use Rattle.htmd_document_of_tree.specs.declared.leadings.Span.{Span}
 use Rattle.htmd_document_of_tree.specs.Anchors.{values_of}
 use Rattle.htmd_document_of_tree.specs.Limits.{address_of}
-use Rattle.htmd_document_of_tree.specs.Seen.{seen, all_seen}
-use Rattle.htmd_document_of_tree.specs.Targets.{Target, is_whole}
+use Rattle.htmd_document_of_tree.specs.Seen.{all_seen}
+use Rattle.htmd_document_of_tree.specs.Targets.{is_whole}
 use Rattle.htmd_law_rendering.specs.RenderedTrees.{pairs_of_format, pairs_of_link}
 use Rattle.htmd_law_returning.specs.LastingAnchors.{leads_to, leads, lead}
 use Rattle.htmd_law_returning.specs.SettledDocuments.{is_one_line, is_settled_address}

@@ -20,11 +20,16 @@ use Rattle.htmd_document.specs.NormalDocuments.{has_cell}
 use Rattle.htmd_document.specs.TightItems.{is_filled}
 use Rattle.htmd_document_of_tree.specs.declared.anchors.Anchors.{Anchors}
 use Rattle.htmd_document_of_tree.specs.declared.anchors.Anchors.TheVariants as which
-use Rattle.htmd_law_returning.specs.LastingAnchors.{anchors_stay, anchors_stand, blocks_keep, items_keep, line_keeps}
-use Rattle.htmd_law_returning.specs.LastingAnchors.{heading_keeps, keeps_anchors, goes_on, past_gaps, stand_alone}
+use Rattle.htmd_document.specs.Documents.{Block}
+use Rattle.htmd_law_returning.specs.LastingAnchors.{is_unseen, are_unseen, block_leads, items_lead, cells_lead}
+use Rattle.htmd_law_returning.specs.NoAnchors.{block_has_no_anchors, items_have_no_anchors}
+use Rattle.htmd_law_returning.specs.LastingAnchors.{anchors_stay, anchors_stand, lines_stand, line_keeps}
+use Rattle.htmd_law_returning.proofs.KeptBlocks.{blocks_keep, items_keep, kept, keeps_anchors}
+use Rattle.htmd_law_returning.specs.LastingAnchors.{heading_keeps, goes_on, past_gaps}
+use Rattle.htmd_document.specs.AnchorIds.{has_unique_ids}
+use Rattle.htmd_document.specs.LoneAnchors.{stand_alone, all_stand}
 use Rattle.htmd_law_returning.specs.LastingAnchors.{is_headed_element, title_keeps}
 use Rattle.htmd_law_returning.specs.NoAnchors.{has_no_anchors, have_no_anchors, blocks_have_no_anchors}
-use Rattle.htmd_law_returning.specs.NoAnchors.{items_have_no_anchors}
 use Rattle.htmd_law_returning.specs.SettledDocuments.{is_settled_inline, are_settled_inlines, is_settled_line}
 use Rattle.htmd_law_returning.specs.SettledDocuments.{are_settled_blocks, are_settled_items, is_white_at_break}
 use Rattle.htmd_law_returning.specs.SettledDocuments.{is_settled_table, shows_last_column, is_right_list}
@@ -314,6 +319,15 @@ heading-free (inline (anchor id) xs) h = false-true h
 heading-free (inline line_break xs) h = h
 heading-free (inline (task d) xs) h = h
 
+behind-free : (xs : Inlines) → have_no_anchors xs ≡ true → have_no_anchors (behind_box xs) ≡ true
+behind-free no_inlines h = h
+behind-free (inline (task d) no_inlines) h = h
+behind-free (inline (task d) (inline (text []) xs)) h = h
+behind-free (inline (task d) (inline (text (c ∷ [])) xs)) h = h
+behind-free (inline (task d) (inline (text (c ∷ e ∷ s)) xs)) h = h
+behind-free (inline (task d) (inline x xs)) h = h
+behind-free (inline x xs) h = h
+
 -- ---- documents
 
 -- cells without anchors
@@ -349,19 +363,53 @@ or-true : (a b : Bool) → b ≡ true → (a || b) ≡ true
 or-true true b h = refl
 or-true false b h = h
 
-title-keeps : (d : Blocks) → blocks_have_no_anchors d ≡ true → title_keeps d ≡ true
-title-keeps no_blocks h = refl
-title-keeps (block (paragraph xs) d) h =
-    let p = and_parts (have_no_anchors xs) (blocks_have_no_anchors d) h in
-    both (heading_keeps xs) (blocks_have_no_anchors d) (heading-free xs p.0) p.1
-title-keeps (block (heading level xs) d) h = (and_parts (have_no_anchors xs) (blocks_have_no_anchors d) h).1
-title-keeps (block (code_block language s) d) h = h
-title-keeps (block (quote bs) d) h = h
-title-keeps (block thematic_break d) h = h
-title-keeps (block (list start is_tight items) d) h = h
-title-keeps (block (table alignments header rows) d) h = h
-title-keeps (block (element name attributes bs) d) h = h
-title-keeps (block (tags s) d) h = h
+cells-lead : (cells : List Inlines) → list_all have_no_anchors cells ≡ true → cells_lead cells ≡ true
+cells-lead [] h = refl
+cells-lead (c ∷ cs) h =
+    let p = and_parts (have_no_anchors c) (list_all have_no_anchors cs) h in
+    both (heading_keeps c) (cond (has_none c) (cells_lead cs) (list_all have_no_anchors cs)) (heading-free c p.0)
+    (either (has_none c) (cells-lead cs p.1) p.1)
+  where
+    either : (x : Bool) {y z : Bool} → y ≡ true → z ≡ true → cond x y z ≡ true
+    either true e f = e
+    either false e f = f
+
+mutual
+  block-leads : (b : Block) → block_has_no_anchors b ≡ true → block_leads b ≡ true
+  block-leads (paragraph xs) h = heading-free (behind_box xs) (behind-free xs h)
+  block-leads (heading level xs) h = refl
+  block-leads (code_block language s) h = h
+  block-leads (quote bs) h = title-keeps bs h
+  block-leads thematic_break h = h
+  block-leads (list start is_tight items) h = items-lead items h
+  block-leads (table alignments header rows) h =
+      let p = and_parts (list_all have_no_anchors header) (list_all (list_all have_no_anchors) rows) h in
+      both (cells_lead header) (list_all (list_all have_no_anchors) rows) (cells-lead header p.0) p.1
+  block-leads (element name attributes bs) h =
+      or-true (is_headed_element name) (title_keeps bs) (title-keeps bs h)
+  block-leads (tags s) h = h
+
+  title-keeps : (d : Blocks) → blocks_have_no_anchors d ≡ true → title_keeps d ≡ true
+  title-keeps no_blocks h = refl
+  title-keeps (block b d) h =
+      let p = and_parts (block_has_no_anchors b) (blocks_have_no_anchors d) h in
+      both (block_leads b) (cond (is_unseen b) (title_keeps d) (blocks_have_no_anchors d)) (block-leads b p.0)
+      (either (is_unseen b) (title-keeps d p.1) p.1)
+    where
+      either : (x : Bool) {y z : Bool} → y ≡ true → z ≡ true → cond x y z ≡ true
+      either true e f = e
+      either false e f = f
+
+  items-lead : (items : Items) → items_have_no_anchors items ≡ true → items_lead items ≡ true
+  items-lead no_items h = refl
+  items-lead (item bs rest) h =
+      let p = and_parts (blocks_have_no_anchors bs) (items_have_no_anchors rest) h in
+      both (title_keeps bs) (cond (are_unseen bs) (items_lead rest) (items_have_no_anchors rest)) (title-keeps bs p.0)
+      (either (are_unseen bs) (items-lead rest p.1) p.1)
+    where
+      either : (x : Bool) {y z : Bool} → y ≡ true → z ≡ true → cond x y z ≡ true
+      either true e f = e
+      either false e f = f
 
 mutual
   pub none-keep : (d : Blocks) (b is_end : Bool) → blocks_have_no_anchors d ≡ true
@@ -449,9 +497,14 @@ mutual
       (settled-alone bs settled.0))
       (none-keep-items rest free.1 normal.1 settled.1)
 
+standing-keep : (d : Blocks) → anchors_stand d ≡ true → blocks_keep true d ≡ true
+standing-keep d h =
+    let p = and_parts (lines_stand d && all_stand true d) (has_unique_ids d) h in
+    let q = and_parts (lines_stand d) (all_stand true d) p.0 in
+    kept d true q.0 q.1
+
 pub stay-keep : (w : Anchors) (d : Blocks) → anchors_stay w d ≡ true → are_normal_blocks false d ≡ true
     → are_settled_blocks d ≡ true → blocks_keep true d ≡ true
 stay-keep which.None d h normal settled = none-keep d false true h normal (settled-alone d settled)
-stay-keep which.Linked d h normal settled =
-    (and_parts (blocks_keep true d) _ (and_parts (anchors_stand d) _ h).0).0
-stay-keep which.All d h normal settled = (and_parts (blocks_keep true d) _ h).0
+stay-keep which.Linked d h normal settled = standing-keep d (and_parts (anchors_stand d) _ h).0
+stay-keep which.All d h normal settled = standing-keep d h

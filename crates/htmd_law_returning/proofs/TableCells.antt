@@ -1,6 +1,6 @@
 -- What the rows of a table give whose cells hold settled lines.
 use Rattle.std.proofs.Common.{◌≡◌, ℕ, ◌+◌, Bool, true, false, ◌&&◌, ◌||◌, List, [], ◌∷◌, filter, map}
-use Rattle.std.proofs.Common.{fold, drop, refl, sym, ap, ◌∙◌, subst, arith, Some, None}
+use Rattle.std.proofs.Common.{fold, drop, refl, sym, ap, ◌∙◌, subst, arith, Some}
 use Rattle.std.specs.List.{list_all, flat_map}
 use Rattle.std.specs.Str.{chars}
 use Rattle.htmd_lexical.specs.AttributePairs.{AttributePair}
@@ -12,7 +12,7 @@ use Rattle.htmd_document.specs.NormalDocuments.{has_cell}
 use Rattle.htmd_document.specs.NormalInlines.{has_none, are_normal}
 use Rattle.htmd_flow.specs.Flows.{nodes_of, node_of, flow_all}
 use Rattle.htmd_flow.specs.Flows as flow
-use Rattle.htmd_flow.specs.Grids.{Cell, Row, trimmed_row}
+use Rattle.htmd_flow.specs.Grids.{trimmed_row}
 use Rattle.htmd_flow.specs.Levels.{list_of}
 use Rattle.htmd_flow.specs.Paragraphs.{Writing, fed_all, line_in}
 use Rattle.htmd_flow.specs.Parts.{Part}
@@ -26,6 +26,16 @@ use Rattle.htmd_shown.specs.declared.facts.Facts.{Facts}
 use Rattle.htmd_shown.specs.declared.role.Role.TheVariants as role
 use Rattle.htmd_commonmark_reading.specs.Rendering.{first_alignment}
 use Rattle.htmd_law_rendering.specs.RenderedTrees.{pairs_of_alignment}
+use Rattle.htmd_document_of_tree.specs.Seen.{seen, all_seen}
+use Rattle.htmd_lexical.proofs.Cases.{test}
+use Rattle.std.specs.Prelude.{nat_le}
+use Rattle.std.proofs.Common.{cond}
+use Rattle.htmd_law_returning.specs.LastingAnchors.{heading_keeps, cells_lead}
+use Rattle.htmd_law_returning.specs.NoAnchors.{have_no_anchors}
+use Rattle.htmd_law_returning.proofs.FirstTargets.{first-behind, line-first, plain-nameless}
+use Rattle.htmd_law_returning.proofs.HomeAnchors.{none-in-cells}
+use Rattle.htmd_law_returning.proofs.LocalAnchors.{come_first, comes_first, are_led, are_nameless, led-first}
+use Rattle.std.proofs.lemmas.Bool.{and_parts, and_from}
 use Rattle.htmd_law_returning.specs.SettledDocuments.{weight_among, weight_of_cells, weight_of_rows}
 use Rattle.htmd_law_returning.specs.SettledDocuments.{said_among, said_of_cells, said_of_rows}
 use Rattle.htmd_document_of_tree.specs.Limits.{Written}
@@ -47,7 +57,6 @@ use Rattle.htmd_law_returning.proofs.SoundBlocks.{AreSound, IsSound, sound-none}
 use Rattle.htmd_law_returning.proofs.SoundNodes.{sound-bare}
 use Rattle.htmd_law_returning.proofs.SoundTrees.{IsSoundLine}
 use Rattle.htmd_law_returning.specs.LastingAnchors.{line, cells_of}
-use Rattle.htmd_law_returning.specs.NoAnchors.{have_no_anchors}
 use Rattle.htmd_law_returning.proofs.FormatLemmas.{place}
 use Rattle.htmd_law_returning.proofs.LineFormLemmas.{IsWhole}
 use Rattle.htmd_law_returning.proofs.LineParts.{parts_in, Numbers, is_rising}
@@ -116,6 +125,7 @@ pub record AreCells (is_rich : Bool) (n : ℕ) (is_header : Bool) (alignments : 
   pub counted : (c : Cells) → c.holds_table ≡ false
       → IsKept (has_cell cells) c (fold tables.with_cell_at c (list_of (local_all [] ts)))
   pub rich : AreRichCells is_rich n is_header alignments cells (local_all [] ts)
+  pub leads : cells_lead cells ≡ true → come_first ts ≡ true
 
 module _ (is_rich : Bool) (n : ℕ) where
   pub none-cells : (is_header : Bool) (alignments : List Alignment)
@@ -131,6 +141,7 @@ module _ (is_rich : Bool) (n : ℕ) where
     gives = refl;
     counted = λ c h. record { no_table = h; filled = λ e. either c.is_filled e };
     rich = no-rich-cells is_rich n is_header alignments;
+    leads = λ h. refl;
   }
     where
       either : (b : Bool) → (b || false) ≡ true → b ≡ true
@@ -176,6 +187,17 @@ module _ (is_rich : Bool) (n : ℕ) where
   cell-bare id true attributes content e h = sound-bare (made id role.HeaderCell attributes content) (rw (e, h) refl)
   cell-bare id false attributes content e h = sound-bare (made id role.Cell attributes content) (rw (e, h) refl)
 
+  cell-first : (id : ℕ) (is_header : Bool) (attributes : List AttributePair) (content : Simples)
+      → has_no_name attributes ≡ true → come_first content ≡ true
+      → comes_first (made id (cell_role is_header) attributes content) ≡ true
+  cell-first id true attributes content e h = and_from (has_no_name attributes) (come_first content) e h
+  cell-first id false attributes content e h = and_from (has_no_name attributes) (come_first content) e h
+
+  cell-seen : (id : ℕ) (is_header : Bool) (attributes : List AttributePair) (content : Simples)
+      → seen (made id (cell_role is_header) attributes content) ≡ all_seen content
+  cell-seen id true attributes content = refl
+  cell-seen id false attributes content = refl
+
   cell-free : {g : Written → Written} → (is_header : Bool) → (k id : ℕ) (attributes : List AttributePair)
       (content : Simples) → AllSpend k g content → Spends k g (made id (cell_role is_header) attributes content)
   cell-free true k id attributes content h =
@@ -188,12 +210,14 @@ module _ (is_rich : Bool) (n : ℕ) where
       → pending_all [] content ≡ [] → AllSpend (weight_among c) (said_among c) content
       → have_table content ≡ false → pres_among content ≡ 0
       → (is_some c ≡ true → show false content ≡ true)
+      → (heading_keeps c ≡ true → are_led content ≡ true) → (has_none c ≡ true → all_seen content ≡ 0)
       → flow.line_of (flow_all (nodes_of (local_all [] content)) (place true is_rich n [])) ≡ c
       → flow.blocks_of false (parts_of is_rich n (local_all [] content)) ≡ cell_blocks c
       → AreCells is_rich n is_header (drop 1 alignments) cs ts
       → AreCells is_rich n is_header alignments (c ∷ cs)
       (more (made id (cell_role is_header) (pairs_of_alignment (first_alignment alignments)) content) (lined ts))
-  more-cells id is_header alignments content ts c cs sound bare waits spent tableless preless shows e parts later =
+  more-cells id is_header alignments content ts c cs sound bare waits spent tableless preless shows led unseen e parts
+      later =
       let a : Alignment = first_alignment alignments in
       let pairs : List AttributePair = pairs_of_alignment a in
       let nameless : has_no_name pairs ≡ true = alignment-nameless a in
@@ -236,6 +260,19 @@ module _ (is_rich : Bool) (n : ℕ) where
         rich = subst (AreRichCells is_rich n is_header alignments (c ∷ cs)) (sym all.0)
             (more-rich-cells is_rich n id facts is_header alignments inside us c cs preless
             (λ some. all-local-shows false [] content ∙ shows some) parts later.rich);
+        leads = λ h.
+            let p = and_parts (heading_keeps c) (cond (has_none c) (cells_lead cs) (list_all have_no_anchors cs)) h in
+            let comes : comes_first tree ≡ true =
+            cell-first id is_header pairs content nameless (led-first content (led p.0)) in
+            test (has_none c)
+            (λ q. and_from (comes_first tree) (cond (nat_le (seen tree) 0) (come_first (lined ts))
+            (are_nameless (lined ts))) comes
+            (ap (λ k. cond (nat_le k 0) (come_first (lined ts)) (are_nameless (lined ts)))
+            (cell-seen id is_header pairs content ∙ unseen q)
+            ∙ (line-first ts ∙ later.leads (sym (ap (λ b. cond b (cells_lead cs) (list_all have_no_anchors cs)) q)
+            ∙ p.1))))
+            (λ q. first-behind tree (lined ts) comes (plain-nameless ts (cells_of cs) later.sound
+            (none-in-cells cs (sym (ap (λ b. cond b (cells_lead cs) (list_all have_no_anchors cs)) q) ∙ p.1))));
       }
     where
       or-true : (b : Bool) → (b || true) ≡ true

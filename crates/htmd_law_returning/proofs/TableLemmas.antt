@@ -25,6 +25,11 @@ use Rattle.htmd_shown.specs.Facts.{made, facts_of}
 use Rattle.htmd_shown.specs.SimpleTrees.{Simple, Simples, none, more, element}
 use Rattle.htmd_shown.specs.declared.facts.Facts.{Facts}
 use Rattle.htmd_shown.specs.declared.role.Role.TheVariants as role
+use Rattle.htmd_shown.specs.Showings.{show}
+use Rattle.htmd_law_returning.specs.LastingAnchors.{cells_lead}
+use Rattle.htmd_law_returning.specs.NoAnchors.{have_no_anchors}
+use Rattle.htmd_law_returning.proofs.HomeAnchors.{none-in-rows}
+use Rattle.htmd_law_returning.proofs.LocalAnchors.{comes_first, are_nameless}
 use Rattle.htmd_law_returning.specs.SettledDocuments.{weight_among, weight_of_cells, weight_of_rows}
 use Rattle.htmd_law_returning.specs.SettledDocuments.{said_among, said_of_cells, said_of_rows, over_cells, over_rows}
 use Rattle.htmd_law_returning.specs.SettledDocuments.{shows_last_column, shows_header}
@@ -37,7 +42,8 @@ use Rattle.htmd_law_returning.proofs.ReadyLemmas.{apart-fed}
 use Rattle.htmd_law_returning.proofs.FlowLemmas.{GivesBlock}
 use Rattle.htmd_law_returning.proofs.GridLemmas.{made_row, made_rows, cut_row, table-made, lines-made}
 use Rattle.htmd_law_returning.proofs.RichCellLemmas.{cells_among}
-use Rattle.htmd_law_returning.proofs.RichCellLemmas.{line_tree}
+use Rattle.htmd_law_returning.proofs.RichCellLemmas.{line_tree, cells-show}
+use Rattle.htmd_law_returning.proofs.LocalShowings.{all-local-shows}
 use Rattle.htmd_law_returning.proofs.RichTableLemmas.{rich_row, rich_rows}
 use Rattle.htmd_law_returning.proofs.RichTableLemmas.{as_pieces, body_rows, are_narrow, rich-parts, lines-table}
 use Rattle.htmd_law_returning.proofs.RichTableLemmas.{rows-filled}
@@ -45,9 +51,10 @@ use Rattle.htmd_law_returning.proofs.LocalAnchors.{local_all}
 use Rattle.htmd_law_returning.proofs.LocalLines.{IsLocal, element-local}
 use Rattle.htmd_law_returning.proofs.LocalTables.{lined, lined-local, next-local, row_with, row_tree}
 use Rattle.htmd_law_returning.proofs.LocalTables.{row-local, sound-next, sound-only, sound-row}
+use Rattle.htmd_law_returning.proofs.FirstTargets.{first-behind, line-first, plain-nameless}
 use Rattle.htmd_law_returning.proofs.SoundBlocks.{IsSound, sound-none}
 use Rattle.htmd_law_returning.proofs.SoundNodes.{sound-element, sound-text}
-use Rattle.htmd_law_returning.specs.LastingAnchors.{line, cells_of}
+use Rattle.htmd_law_returning.specs.LastingAnchors.{cells_of}
 use Rattle.htmd_law_returning.proofs.StartLemmas.{Mode, clean, is_flat_mode, false-true}
 use lib.Utf8.{encode}
 use Rattle.htmd_law_returning.proofs.TableCells.{Cells, IsKept, AreCells, AreRows, row-gives, row-spends, spend-line}
@@ -305,16 +312,38 @@ module _ (is_rich : Bool) (n head id : ℕ) (alignments : List Alignment) (heade
       let all = element-local outer role.Table (facts_of content) [] content refl refl (inner.1 ∙ next.1) in
       (all.0 ∙ ap (element outer role.Table (facts_of content) []) (inner.0 ∙ ap lined next.0), all.1)
 
+  cells-seen : shows_header header ≡ true → show false cells ≡ true
+  cells-seen shown = sym (all-local-shows false [] cells) ∙ cells-show inside (own.rich.shows shown)
+
+  -- something shows in the head
+  head-seen : (us : Simples) → shows_header header ≡ true
+      → show false (more line_tree (more (made head role.TableHead [] (head_in id cells)) us)) ≡ true
+  unfolding chars encode
+  head-seen us shown =
+      ap (λ b. (b || false) || show false us) (cells-seen shown)
+
+  alone-seen : shows_header header ≡ true → show false (head_alone head id cells) ≡ true
+  alone-seen shown = head-seen (more line_tree none) shown
+
+  head-first : cells_lead header ≡ true → comes_first (made head role.TableHead [] (head_in id cells)) ≡ true
+  head-first k =
+      line-first (more (row_tree id cells) (lined none))
+      ∙ first-behind (row_tree id cells) (lined none) (line-first cells ∙ own.leads k) refl
+
+  alone-sound : (outer : ℕ) → IsSound (made outer role.Table [] (head_alone head id cells)) (cells_of header ++ [])
+  alone-sound outer =
+      sound-element outer role.Table [] (head_alone head id cells) (cells_of header ++ []) refl refl
+      (sound-text (line_feed ∷ []) (more (made head role.TableHead [] (head_in id cells)) (lined none))
+      (cells_of header ++ [])
+      (sound-next (made head role.TableHead [] (head_in id cells)) none (cells_of header) [] head-local.1 head-sound
+      sound-none))
+
   pub alone-gives : (outer : ℕ) → (is_rich && not (shows_header header && true)) ≡ false
       → (length alignments == length header) ≡ true
       → shows_last_column header [] ≡ true
       → GivesBlock is_rich n (made outer role.Table [] (head_alone head id cells)) (table alignments header [])
   alone-gives outer plain count last = record {
-    sound = sound-element outer role.Table [] (head_alone head id cells) (cells_of header ++ []) refl refl
-        (sound-text (line_feed ∷ []) (more (made head role.TableHead [] (head_in id cells)) (lined none))
-        (cells_of header ++ [])
-        (sound-next (made head role.TableHead [] (head_in id cells)) none (cells_of header) [] head-local.1 head-sound
-        sound-none));
+    sound = alone-sound outer;
     waits = (alone-local outer).1;
     led = λ ids e. false-true e;
     spent =
@@ -327,7 +356,12 @@ module _ (is_rich : Bool) (n head id : ℕ) (alignments : List Alignment) (heade
         (spend-line k head_tree head-spends)));
     kind = refl;
     untitled = refl;
-    lean = heavy-tree refl;
+    lean = heavy-tree refl refl (λ r. alone-seen
+        (and_parts (shows_header header) true (asked is_rich (shows_header header && true) r plain)).0)
+        (λ k. false-true k)
+        (λ k. line-first (more (made head role.TableHead [] (head_in id cells)) (lined none))
+        ∙ first-behind (made head role.TableHead [] (head_in id cells)) (lined none)
+        (head-first (and_parts (cells_lead header) true k).0) refl);
     gives = λ mode w done h may ts.
         ap (λ t. fed_all w (parts_of is_rich n (more t ts))) (alone-local outer).0 ∙
         test is_rich
@@ -476,6 +510,29 @@ module _ (is_rich : Bool) (n head id : ℕ) (alignments : List Alignment) (heade
         (lines-table (Some head) (Some body) alignments header lines b same narrow
         (lines-made alignments header lines some count normal last))
 
+    body-seen : shows_header header ≡ true → show false all ≡ true
+    body-seen shown = head-seen (more line_tree (more body_tree (more line_tree none))) shown
+
+    body-nameless : list_all (list_all have_no_anchors) (map cut_row lines) ≡ true
+        → are_nameless (lined (more body_tree (lined none))) ≡ true
+    body-nameless h =
+        ap (λ b. b && true) (plain-nameless rows (flat_map cells_of (map cut_row lines)) others.sound
+        (none-in-rows (map cut_row lines) h))
+
+    body-sound : (outer : ℕ) → IsSound (made outer role.Table [] all)
+        (cells_of header ++ flat_map cells_of (map cut_row lines))
+    body-sound outer =
+        sound-element outer role.Table [] all (cells_of header ++ flat_map cells_of (map cut_row lines))
+        refl refl
+        (sound-text (line_feed ∷ [])
+        (more (made head role.TableHead [] (head_in id cells)) (lined (more body_tree (lined none))))
+        (cells_of header ++ flat_map cells_of (map cut_row lines))
+        (sound-next (made head role.TableHead [] (head_in id cells)) (more body_tree (lined none))
+        (cells_of header) (flat_map cells_of (map cut_row lines)) head-local.1 head-sound
+        (sound-only body_tree (flat_map cells_of (map cut_row lines)) body-local.1
+        (sound-element body role.TableBody [] (lined rows) (flat_map cells_of (map cut_row lines)) refl refl
+        (sound-text (line_feed ∷ []) rows (flat_map cells_of (map cut_row lines)) others.sound)))))
+
     pub body-gives : (outer : ℕ)
         → (is_rich && not (shows_header header && are_narrow (length header) lines)) ≡ false
         → (length alignments == length header) ≡ true
@@ -486,16 +543,7 @@ module _ (is_rich : Bool) (n head id : ℕ) (alignments : List Alignment) (heade
         let j : ℕ = weight_of_cells header in
         let b : Block = table alignments header (map cut_row lines) in
         record {
-          sound = sound-element outer role.Table [] all (cells_of header ++ flat_map cells_of (map cut_row lines))
-              refl refl
-              (sound-text (line_feed ∷ [])
-              (more (made head role.TableHead [] (head_in id cells)) (lined (more body_tree (lined none))))
-              (cells_of header ++ flat_map cells_of (map cut_row lines))
-              (sound-next (made head role.TableHead [] (head_in id cells)) (more body_tree (lined none))
-              (cells_of header) (flat_map cells_of (map cut_row lines)) head-local.1 head-sound
-              (sound-only body_tree (flat_map cells_of (map cut_row lines)) body-local.1
-              (sound-element body role.TableBody [] (lined rows) (flat_map cells_of (map cut_row lines)) refl refl
-              (sound-text (line_feed ∷ []) rows (flat_map cells_of (map cut_row lines)) others.sound)))));
+          sound = body-sound outer;
           waits = (table-local outer).1;
           led = λ ids e. false-true e;
           spent = subst (λ (k : ℕ). Spends (j + k)
@@ -506,7 +554,14 @@ module _ (is_rich : Bool) (n head id : ℕ) (alignments : List Alignment) (heade
               (spend-element (j + weight_of_rows lines) outer role.Table (facts_of all) [] all refl body-spent));
           kind = refl;
           untitled = refl;
-          lean = heavy-tree refl;
+          lean = heavy-tree refl refl (λ r. body-seen
+              (and_parts (shows_header header) (are_narrow (length header) lines)
+              (asked is_rich (shows_header header && are_narrow (length header) lines) r plain)).0) (λ k. false-true k)
+              (λ k.
+              let p = and_parts (cells_lead header) (list_all (list_all have_no_anchors) (map cut_row lines)) k in
+              line-first (more (made head role.TableHead [] (head_in id cells)) (lined (more body_tree (lined none))))
+              ∙ first-behind (made head role.TableHead [] (head_in id cells)) (lined (more body_tree (lined none)))
+              (head-first p.0) (body-nameless p.1));
           gives = λ mode w done h may ts.
               ap (λ t. fed_all w (parts_of is_rich n (more t ts))) (table-local outer).0 ∙
               test is_rich

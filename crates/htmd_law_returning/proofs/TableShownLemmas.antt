@@ -13,7 +13,7 @@ use Rattle.htmd_nodes.specs.NumberedTrees.{NumberedForest, value_forest}
 use Rattle.htmd_nodes.specs.NumberedTrees as page
 use Rattle.htmd_document.specs.declared.document.Alignment.{Alignment}
 use Rattle.htmd_document.specs.declared.document.Alignment.TheVariants as align
-use Rattle.htmd_document.specs.Documents.{Inlines, no_inlines, table}
+use Rattle.htmd_document.specs.Documents.{Inlines, no_inlines, inline, table}
 use Rattle.htmd_document.specs.NormalDocuments.{has_cell, are_normal_cells, is_normal_row, is_normal_table}
 use Rattle.htmd_document.specs.NormalInlines.{has_none, are_whole, are_normal, is_normal_line, anchors_stand_well}
 use Rattle.htmd_flow.specs.Flows.{nodes_of, flow_all}
@@ -29,6 +29,8 @@ use Rattle.htmd_commonmark_reading.specs.Rendering.{first_alignment}
 use Rattle.htmd_shown.specs.Pieces.{greatest_count}
 use Rattle.htmd_law_rendering.specs.RenderedTrees.{pairs_of_alignment}
 use Rattle.htmd_law_rendering.specs.SpelledTrees.{value_forest as forest_of}
+use Rattle.htmd_document_of_tree.specs.Seen.{all_seen}
+use Rattle.htmd_law_returning.proofs.StartLemmas.{false-true}
 use Rattle.htmd_law_returning.specs.PageFormats.{line_shows}
 use Rattle.htmd_law_returning.specs.SettledDocuments.{is_settled_line, is_settled_table, shows_last_column}
 use Rattle.htmd_law_returning.specs.SettledDocuments.{shows_header}
@@ -168,14 +170,14 @@ module _ (scripting is_rich : Bool) where
 
 -- ---- what is normal and settled holds of all cells
 
-all-cells : (p : Inlines → Bool) → p no_inlines ≡ true → (rows : List (List Inlines))
+pub all-cells : (p : Inlines → Bool) → p no_inlines ≡ true → (rows : List (List Inlines))
     → list_all (list_all p) (map cut_row rows) ≡ true → list_all (list_all p) rows ≡ true
 all-cells p empty [] h = refl
 all-cells p empty (r ∷ rs) h =
     let parts = and_parts (list_all p (cut_row r)) (list_all (list_all p) (map cut_row rs)) h in
     and_from (list_all p r) (list_all (list_all p) rs) (whole-row p empty r parts.0) (all-cells p empty rs parts.1)
 
-normal-cells : (k : ℕ) (rows : List (List Inlines)) → list_all (is_normal_row k) rows ≡ true
+pub normal-cells : (k : ℕ) (rows : List (List Inlines)) → list_all (is_normal_row k) rows ≡ true
     → (list_all (list_all is_normal_line) rows ≡ true) × (list_all (list_all anchors_stand_well) rows ≡ true)
 normal-cells k [] h = (refl, refl)
 normal-cells k (r ∷ rs) h =
@@ -250,6 +252,7 @@ module _ (scripting is_rich : Bool) (n : ℕ) (alignments : List Alignment) wher
             shows.plain.tableless shows.plain.preless
             (λ some. shows.plain.shows (line-seen c false [] (whole-inlines c (from-not (has_none c) some) held.0)
             line.1 held.1))
+            shows.led (λ none_there. ap all_seen (none-inside c own.inside own.within none_there))
             (cell-line (flow_all (nodes_of inside) (place true is_rich n [])) shows.numbers c
             (λ w. shows.gives true n w)
             (λ some. whole-inlines c some held.0) line.1 held.1 shows.rising)
@@ -257,6 +260,13 @@ module _ (scripting is_rich : Bool) (n : ℕ) (alignments : List Alignment) wher
             (λ w. shows.gives false n w)
             (λ some. whole-inlines c some held.0) line.1 held.1 shows.rising) rest.gives);
       }
+    where
+      none-inside : (c : Inlines) (g : NumberedForest) → Stands (value_forest g) (line_trees c)
+          → has_none c ≡ true
+          → shown_of scripting is_rich None g ≡ none
+      none-inside no_inlines g e h =
+          ap (shown_of scripting is_rich None) (from-none g e) ∙ none-shown scripting is_rich None
+      none-inside (inline x xs) g e h = false-true h
 
   -- a row of these cells, behind a line's end
   record HasRow (is_header : Bool) (cells : List Inlines) (inside : NumberedForest) : Type 0 where
@@ -470,23 +480,23 @@ module _ (scripting is_rich : Bool) (n : ℕ) (alignments : List Alignment) wher
         (table alignments header (map cut_row rows))
 
   -- what is known of a table
-  record IsTable (header : List Inlines) (rows : List (List Inlines)) : Type 0 where
-    some : has_cell header ≡ true
-    count : (length alignments == length header) ≡ true
-    form : list_all (is_normal_row (length header)) (map cut_row rows) ≡ true
-    last : shows_last_column header (map cut_row rows) ≡ true
-    settled : list_all is_settled_line header ≡ true
-    normal : list_all is_normal_line header ≡ true
-    shows : list_all (line_shows is_rich) header ≡ true
-    all_show : list_all (list_all (line_shows is_rich)) rows ≡ true
-    free : list_all line_keeps header ≡ true
-    all_free : list_all (list_all line_keeps) rows ≡ true
-    all_settled : list_all (list_all is_settled_line) rows ≡ true
-    all_normal : list_all (list_all is_normal_line) rows ≡ true
-    stands : list_all anchors_stand_well header ≡ true
-    all_stand : list_all (list_all anchors_stand_well) rows ≡ true
+  pub record IsTable (header : List Inlines) (rows : List (List Inlines)) : Type 0 where
+    pub some : has_cell header ≡ true
+    pub count : (length alignments == length header) ≡ true
+    pub form : list_all (is_normal_row (length header)) (map cut_row rows) ≡ true
+    pub last : shows_last_column header (map cut_row rows) ≡ true
+    pub settled : list_all is_settled_line header ≡ true
+    pub normal : list_all is_normal_line header ≡ true
+    pub shows : list_all (line_shows is_rich) header ≡ true
+    pub all_show : list_all (list_all (line_shows is_rich)) rows ≡ true
+    pub free : list_all line_keeps header ≡ true
+    pub all_free : list_all (list_all line_keeps) rows ≡ true
+    pub all_settled : list_all (list_all is_settled_line) rows ≡ true
+    pub all_normal : list_all (list_all is_normal_line) rows ≡ true
+    pub stands : list_all anchors_stand_well header ≡ true
+    pub all_stand : list_all (list_all anchors_stand_well) rows ≡ true
 
-  is-table : (header : List Inlines) (rows : List (List Inlines))
+  pub is-table : (header : List Inlines) (rows : List (List Inlines))
       → is_settled_table header (map cut_row rows) ≡ true
       → (list_all line_keeps header && list_all (list_all line_keeps) (map cut_row rows)) ≡ true
       → (list_all (line_shows is_rich) header && list_all (list_all (line_shows is_rich)) (map cut_row rows)) ≡ true

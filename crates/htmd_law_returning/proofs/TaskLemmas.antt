@@ -2,8 +2,9 @@
 use Rattle.std.proofs.Common.{◌≡◌, ℕ, suc, ◌<◌, Bool, true, false, not, ◌&&◌, ◌||◌, cond, List, []}
 use Rattle.std.proofs.Common.{◌∷◌}
 use Rattle.std.proofs.Common.{refl, sym, ap, ◌∙◌, codes, subst, Option, Some, None, ◌⊎◌, inl, inr, ⊎_elim}
-use Rattle.std.specs.List.{list_any}
+use Rattle.std.specs.List.{list_all, list_any}
 use Rattle.std.proofs.lemmas.Bool.{and_parts}
+use Rattle.std.specs.Str.{chars}
 use Rattle.htmd_lexical.specs.AttributePairs.{AttributePair}
 use Rattle.htmd_lexical.specs.Characters.{space}
 use Rattle.htmd_values.specs.ValueTrees as value
@@ -29,6 +30,17 @@ use Rattle.htmd_shown.specs.Shown.{shown}
 use Rattle.htmd_shown.specs.SimpleTrees.{Simple, Simples, none, more}
 use Rattle.htmd_law_rendering.specs.RenderedTrees.{pairs_of_box}
 use Rattle.htmd_law_rendering.specs.SpelledTrees as spelled
+use Rattle.htmd_shown.specs.Showings.{show}
+use Rattle.htmd_shown.specs.Spaces.{is_blank_text, is_white}
+use Rattle.std.specs.Prelude.{nat_le}
+use Rattle.htmd_document_of_tree.specs.Seen.{one_if}
+use Rattle.htmd_shown.specs.SimpleTrees as simple
+use Rattle.htmd_law_returning.specs.LastingAnchors.{heading_keeps}
+use Rattle.htmd_law_returning.proofs.LocalAnchors.{come_first, are_nameless, led-first}
+use Rattle.htmd_law_returning.proofs.ShownInlines.{text-at}
+use Rattle.htmd_law_returning.proofs.TextLemmas.{text-line}
+use Rattle.htmd_law_returning.proofs.BoxLemmas.{characters-behind-space, box-normal}
+use Rattle.htmd_law_returning.proofs.LineFormLemmas.{normal-one, settled-one}
 use Rattle.htmd_law_returning.specs.PageFormats.{line_shows}
 use Rattle.htmd_law_returning.specs.SettledDocuments.{is_settled_line, is_settled_paragraph, behind_box, weight_among}
 use Rattle.htmd_law_returning.specs.SettledDocuments.{said_among}
@@ -40,11 +52,12 @@ use Rattle.htmd_law_returning.proofs.FlowLemmas.{IsLineFed, line-fed}
 use Rattle.htmd_law_returning.proofs.HeldLemmas.{are_black_ended, are_held, line-held}
 use Rattle.htmd_law_returning.proofs.FormatLemmas.{covers-none}
 use Rattle.htmd_law_returning.proofs.InlineLemmas.{free-none, right-light}
-use Rattle.htmd_law_returning.proofs.LineFactLemmas.{AreLineTrees, seen-trees, line-seen}
+use Rattle.htmd_law_returning.proofs.LineFactLemmas.{AreLineTrees, seen-trees, line-seen, goes_seen, begun-goes}
 use Rattle.htmd_law_returning.proofs.LineFormLemmas.{IsWhole, whole-inlines}
 use Rattle.htmd_law_returning.proofs.LineParts.{Numbers, unknown, numbered, is_rising, rise-more, parts_in}
 use Rattle.htmd_law_returning.proofs.OrderLemmas.{is_ordered, ordered-next}
-use Rattle.htmd_law_returning.proofs.PageLemmas.{from-none, from-element, fresh-first, fresh-next, shown_of}
+use Rattle.htmd_law_returning.proofs.PageLemmas.{IsFresh, from-none, from-text, from-element}
+use Rattle.htmd_law_returning.proofs.PageLemmas.{fresh-first, fresh-next, shown_of}
 use Rattle.htmd_law_returning.proofs.PageLemmas.{plain-content, none-shown}
 use Rattle.htmd_law_returning.proofs.InlineParts.{gives_at}
 use Rattle.htmd_law_returning.proofs.ShownLineLemmas.{line-shown-at}
@@ -57,6 +70,7 @@ use Rattle.htmd_law_returning.proofs.LocalAnchors.{local_all, pending_all}
 use Rattle.htmd_law_returning.proofs.SoundTrees.{IsSoundLine, sound-leaf}
 use Rattle.htmd_shown.specs.declared.facts.Facts.{Facts}
 use Rattle.htmd_shown.specs.SimpleTrees.{element}
+use lib.Utf8.{encode}
 
 -- ---- what a paragraph is like
 
@@ -72,6 +86,10 @@ IsParagraph xs = IsPlain xs ⊎ IsTask xs
 -- it isn't anchors alone, and its anchors come back
 abbrev pub is_lasting : Inlines → Bool
 is_lasting xs = not (are_anchors xs) && line_keeps xs
+
+or-false : (a : Bool) → (a || false) ≡ true → a ≡ true
+or-false true h = refl
+or-false false h = h
 
 or-second : (a b : Bool) → a ≡ false → (a || b) ≡ true → b ≡ true
 or-second a b e h = sym (ap (λ x. x || b) e) ∙ h
@@ -128,6 +146,11 @@ paragraph-parts b (inline (task d) xs) settled h lasts = inr (task-paragraph b d
 
 pub paragraph-some : (xs : Inlines) → IsParagraph xs → has_none xs ≡ false
 paragraph-some xs own = ⊎_elim (λ p. p.whole.some) (λ t. ap has_none t.is) own
+
+pub no-box : (xs : Inlines) → are_normal false [] xs ≡ true → behind_box xs ≡ xs
+no-box no_inlines h = refl
+no-box (inline (task d) xs) h = false-true h
+no-box (inline x xs) h = refl
 
 -- where it may stand
 pub paragraph-fed : (ns : Numbers) (xs : Inlines) → IsParagraph xs → is_rising 0 ns xs ≡ true → (mode : Mode)
@@ -212,6 +235,68 @@ module _ (scripting is_rich : Bool) where
     no_item = λ id inside. refl;
   }
 
+  space-blank : is_blank_text (space ∷ []) ≡ true
+  unfolding chars encode
+  space-blank = refl
+
+  -- behind the box and its space something shows
+  box-seen : (d : Bool) (s : List ℕ) (xs : Inlines) → are_normal false [] (inline (text (space ∷ s)) xs) ≡ true
+      → are_held (behind_box (inline (task d) (inline (text (space ∷ s)) xs))) ≡ true
+      → IsWhole (behind_box (inline (task d) (inline (text (space ∷ s)) xs)))
+      → goes_seen (inline (text (space ∷ s)) xs) ≡ true
+  box-seen d [] xs normal held whole =
+      ap (λ b. not b || goes_seen xs) space-blank
+      ∙ begun-goes xs (line-seen xs false [] whole (normal-one false [] (text (space ∷ [])) xs normal).rest held)
+  box-seen d (c ∷ s) xs normal held whole =
+      let line : Inlines = inline (text (c ∷ s)) xs in
+      let black : not (is_blank_text (c ∷ s)) ≡ true =
+      or-false (not (is_blank_text (c ∷ s)))
+      (line-seen line false [] whole (box-normal d space (c ∷ s) xs refl normal) held) in
+      ap (λ b. b || goes_seen xs)
+      (ap (λ cs. not (list_all is_white cs)) (characters-behind-space (c ∷ s)) ∙ black)
+
+  -- ---- anchors behind a box
+
+  -- of what shows of a task's line, where anchors stand first behind the box
+  abbrev LeadsBehind : Bool → Inlines → Type 0
+  LeadsBehind d xs = (before : Option (List AttributePair)) (f : NumberedForest) → IsFresh before
+      → Stands (value_forest f) (line_trees xs) → (k : ℕ) → is_ordered k f ≡ true
+      → heading_keeps (behind_box (inline (task d) xs)) ≡ true
+      → come_first (shown_of scripting is_rich before f) ≡ true
+
+  space-before : (ts : Simples) → come_first ts ≡ true
+      → come_first (more (simple.text (space ∷ [])) ts) ≡ true
+  space-before ts h =
+      ap (λ b. cond (nat_le (one_if (not b)) 0) (come_first ts) (are_nameless ts)) space-blank ∙ h
+
+  box-before : (id : ℕ) (d : Bool) (ts : Simples) → come_first ts ≡ true
+      → come_first (more (made id role.Input (pairs_of_box d) none) ts) ≡ true
+  box-before id true ts h = h
+  box-before id false ts h = h
+
+  spaced-leads : (d : Bool) (s : List ℕ) (xs : Inlines)
+      → are_normal false [] (inline (text (space ∷ s)) xs) ≡ true
+      → are_held (inline (text (space ∷ s)) xs) ≡ true → line_shows is_rich xs ≡ true
+      → weight_among (inline (text (space ∷ s)) xs) < greatest_count
+      → LeadsBehind d (inline (text (space ∷ s)) xs)
+  spaced-leads d [] xs normal held formats light before f fresh e k o h =
+      let good = normal-one false [] (text (space ∷ [])) xs normal in
+      let own = settled-one (text (space ∷ [])) xs held in
+      let found = from-text f (space ∷ []) (line_trees xs) e in
+      let order = ordered-next k f (page.text found.id (space ∷ [])) found.rest found.is o in
+      let rest = line-shown-at scripting is_rich xs (suc found.id) false false before found.rest [] []
+      covers-none free-none fresh found.others good.rest own.rest formats
+      (right-light 0 (weight_among xs) light) order.rest in
+      let ts : Simples = shown_of scripting is_rich before found.rest in
+      ap come_first (ap (shown_of scripting is_rich before) found.is
+      ∙ (text-at scripting is_rich false before found.id (space ∷ []) found.rest
+      ∙ ap (λ t. more (simple.text t) ts) (text-line (space ∷ []) own.own good.own).shown))
+      ∙ space-before ts (led-first ts (rest.led h))
+  spaced-leads d (c ∷ s) xs normal held formats light before f fresh e k o h =
+      led-first (shown_of scripting is_rich before f)
+      ((line-shown-at scripting is_rich (inline (text (space ∷ c ∷ s)) xs) k false false before f [] []
+      covers-none free-none fresh e normal held formats light o).led h)
+
   -- ---- what shows of a paragraph
 
   pub record IsParagraphTree (n : ℕ) (ts : Simples) (xs : Inlines) : Type 0 where
@@ -224,6 +309,8 @@ module _ (scripting is_rich : Bool) where
     pub spent : AllSpend (weight_among xs) (said_among xs) ts
     pub lined : list_any (has is_paragraph) (list_of ts) ≡ false
     pub plain : has_task xs ≡ false → AreLineTrees xs ts
+    pub shows : show false ts ≡ true
+    pub first : heading_keeps (behind_box xs) ≡ true → come_first ts ≡ true
 
   plain-shown : (xs : Inlines) (f : NumberedForest) (n : ℕ) → Stands (value_forest f) (line_trees xs)
       → IsPlain xs → line_shows is_rich xs ≡ true → weight_among xs < greatest_count
@@ -241,14 +328,19 @@ module _ (scripting is_rich : Bool) where
         spent = line.spent;
         lined = line.lined;
         plain = λ h. seen-trees line.plain (line-seen xs false [] own.whole own.normal own.held) line.bare;
+        shows = line.plain.shows (line-seen xs false [] own.whole own.normal own.held);
+        first = λ h. led-first (shown_of scripting is_rich None f)
+            (line.led (sym (ap heading_keeps (no-box xs own.normal)) ∙ h));
       }
 
   task-shown : (d : Bool) (xs : Inlines) (f : NumberedForest) (n : ℕ)
       → Stands (value_forest f) (line_trees (inline (task d) xs)) → are_normal false [] xs ≡ true
-      → are_held xs ≡ true → line_shows is_rich xs ≡ true → weight_among xs < greatest_count
+      → are_held xs ≡ true → goes_seen xs ≡ true → line_shows is_rich xs ≡ true
+      → weight_among xs < greatest_count
       → is_ordered 0 f ≡ true
+      → LeadsBehind d xs
       → IsParagraphTree n (shown_of scripting is_rich None f) (inline (task d) xs)
-  task-shown d xs f n e normal held formats light o =
+  task-shown d xs f n e normal held seen formats light o leads =
       let pairs : List AttributePair = pairs_of_box d in
       let found = from-element f (codes "input") pairs value.none (line_trees xs) e in
       let order = ordered-next 0 f (page.element found.id (codes "input") pairs found.inside) found.rest found.is o in
@@ -262,12 +354,14 @@ module _ (scripting is_rich : Bool) where
       ∙ ap (λ us. more (made found.id role.Input pairs us) ts)
       (ap (shown_of scripting is_rich None) (from-none found.inside found.within)
       ∙ none-shown scripting is_rich None)) in
+      let sound : IsSoundLine (inline (task d) xs) (more tree ts) =
+      sound-leaf (task d) xs tree ts refl (λ id. refl) (ap (λ b. b && true) (box-nameless d))
+      (λ e. false-true e) rest.sound in
       subst (λ (us : Simples). IsParagraphTree n us (inline (task d) xs)) (sym is)
       (record {
         numbers = numbered found.id unknown rest.numbers;
         rising = rise-more 0 found.id unknown rest.numbers (task d) xs order.least refl rest.rising;
-        sound = sound-leaf (task d) xs tree ts refl (λ id. refl) (ap (λ b. b && true) (box-nameless d))
-            (λ e. false-true e) rest.sound;
+        sound = sound;
         waits = rest.waits;
         gives = λ w. ap (fed_all w) (box-gives n found.id (facts_of none) d (local_all [] ts))
             ∙ rest.gives false n (fed w (part.box d));
@@ -275,6 +369,9 @@ module _ (scripting is_rich : Bool) where
             (spend-element 0 found.id role.Input (facts_of none) pairs none refl spend-none) rest.spent;
         lined = rest.lined;
         plain = λ h. true-false h;
+        shows = rest.plain.goes seen;
+        first = λ h. box-before found.id d ts
+            (leads (Some pairs) found.rest (fresh-next pairs) found.others (suc found.id) order.rest h);
       })
 
   pub paragraph-shown-at : (xs : Inlines) (f : NumberedForest) (n : ℕ) → Stands (value_forest f) (line_trees xs)
@@ -284,11 +381,15 @@ module _ (scripting is_rich : Bool) where
       ⊎_elim (λ p. plain-shown xs f n e p formats light o)
       (λ t.
       let line : Inlines = inline (text (space ∷ t.spaced)) t.rest in
+      let held = held-spaced t.first t.spaced t.rest t.normal
+      (subst (λ ys. are_held (behind_box ys) ≡ true) t.is t.held) in
+      let shows = subst (λ ys. line_shows is_rich ys ≡ true) t.is formats in
+      let lean = right-light 0 (weight_among line) (subst (λ ys. weight_among ys < greatest_count) t.is light) in
       subst (λ ys. IsParagraphTree n (shown_of scripting is_rich None f) ys) (sym t.is)
-      (task-shown t.first line f n (subst (λ ys. Stands (value_forest f) (line_trees ys)) t.is e) t.normal
-      (held-spaced t.first t.spaced t.rest t.normal (subst (λ ys. are_held (behind_box ys) ≡ true) t.is t.held))
-      (subst (λ ys. line_shows is_rich ys ≡ true) t.is formats)
-      (right-light 0 (weight_among line) (subst (λ ys. weight_among ys < greatest_count) t.is light)) o))
+      (task-shown t.first line f n (subst (λ ys. Stands (value_forest f) (line_trees ys)) t.is e) t.normal held
+      (box-seen t.first t.spaced t.rest t.normal (subst (λ ys. are_held (behind_box ys) ≡ true) t.is t.held)
+      (subst (λ ys. IsWhole (behind_box ys)) t.is t.whole))
+      shows lean o (spaced-leads t.first t.spaced t.rest t.normal held shows lean)))
       own
 
   -- and of one with blocks behind it

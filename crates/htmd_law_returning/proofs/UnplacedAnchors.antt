@@ -1,15 +1,17 @@
 -- Where no anchors stand, all stay.
-use Rattle.std.proofs.Common.{◌≡◌, ℕ, true, false, List, [], ◌∷◌, ◌++◌, refl, sym, ap, ◌∙◌}
+use Rattle.std.proofs.Common.{◌≡◌, ℕ, true, false, ◌&&◌, List, [], ◌∷◌, ◌++◌, refl, sym, ap, ◌∙◌}
 use Rattle.std.specs.Prelude.{nat_le}
 use Rattle.std.proofs.lemmas.Bool.{and_parts, and_from}
 use Rattle.htmd_document.specs.DocumentLimits.{most_nested}
 use Rattle.htmd_lexical.specs.CharacterClasses.{are_distinct}
 use Rattle.htmd_document.specs.AnchorIds.{ids_of_line, has_unique_ids}
 use Rattle.htmd_document.specs.Documents.{Blocks}
+use Rattle.htmd_document.specs.LoneAnchors.{all_stand}
 use Rattle.htmd_document.specs.NormalDocuments.{IsNormal, are_normal_blocks, depth_among}
 use Rattle.htmd_document_of_tree.specs.declared.anchors.Anchors.{Anchors}
 use Rattle.htmd_document_of_tree.specs.declared.anchors.Anchors.TheVariants as which
-use Rattle.htmd_law_returning.specs.LastingAnchors.{Line, lines_in, blocks_keep, are_led_to}
+use Rattle.htmd_law_returning.specs.LastingAnchors.{Line, lines_in, lines_stand, are_led_to}
+use Rattle.htmd_law_returning.proofs.KeptBlocks.{both}
 use Rattle.htmd_law_returning.specs.LastingAnchors.{anchors_stand, anchors_stay}
 use Rattle.htmd_law_returning.specs.NoAnchors.{blocks_have_no_anchors}
 use Rattle.htmd_law_returning.specs.SettledDocuments.{are_settled_blocks}
@@ -35,9 +37,11 @@ led-none before (l ∷ ls) h =
 unplaced-stand : (d : Blocks) → blocks_have_no_anchors d ≡ true → IsNormal d → are_settled_blocks d ≡ true
     → anchors_stand d ≡ true
 unplaced-stand d h normal settled =
-    and_from (blocks_keep true d) (has_unique_ids d)
+    let stand = both d true
     (none-keep d false true h (and_parts (are_normal_blocks false d) (nat_le (depth_among d) most_nested) normal).0
-    (settled-alone d settled))
+    (settled-alone d settled)) in
+    and_from (lines_stand d && all_stand true d) (has_unique_ids d)
+    (and_from (lines_stand d) (all_stand true d) stand.0 stand.1)
     (ap are_distinct (sym (blocks-ids d) ∙ none-in-blocks d h))
 
 pub unplaced-stay : (w : Anchors) (d : Blocks) → blocks_have_no_anchors d ≡ true → IsNormal d

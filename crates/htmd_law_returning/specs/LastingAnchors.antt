@@ -3,23 +3,25 @@ use Rattle.std.specs.Prelude.{ℕ, Bool, true, false, not, ◌&&◌, ◌||◌, i
 use Rattle.std.specs.Prelude.{◌++◌, drop, None}
 use Rattle.std.specs.List.{list_all, list_any, flat_map}
 use Rattle.htmd_document.specs.Documents.{Inline, formatted, link, anchor, Inlines, no_inlines, inline, Block}
-use Rattle.htmd_document.specs.Documents.{paragraph, heading, code_block, quote, list, table, element, Blocks}
+use Rattle.htmd_document.specs.Documents.{paragraph, heading, quote, thematic_break, list, table, element, Blocks}
 use Rattle.htmd_document.specs.Documents.{no_blocks, block, Items, no_items, item}
 use Rattle.htmd_document.specs.declared.document.BlockElement.{BlockElement}
 use Rattle.htmd_document.specs.declared.document.BlockElement.TheVariants as an
 use Rattle.htmd_document.specs.AnchorIds.{ids_of_line, has_unique_ids}
-use Rattle.htmd_document.specs.NormalInlines.{is_anchor, are_anchors}
+use Rattle.htmd_document.specs.LoneAnchors.{all_stand}
+use Rattle.htmd_document.specs.NormalInlines.{is_anchor, has_none}
 use Rattle.htmd_document_of_tree.specs.declared.anchors.Anchors.{Anchors}
 use Rattle.htmd_document_of_tree.specs.declared.anchors.Anchors.TheVariants as which
 use Rattle.htmd_document_of_tree.specs.Leadings.{is_linked_to, leadings_to}
 use Rattle.htmd_shown.specs.Attributes.{is_to_part}
-use Rattle.htmd_law_returning.specs.NoAnchors.{have_no_anchors, blocks_have_no_anchors}
-use Rattle.htmd_law_returning.specs.SettledDocuments.{is_one_line}
+use Rattle.htmd_law_returning.specs.NoAnchors.{have_no_anchors, block_has_no_anchors, blocks_have_no_anchors}
+use Rattle.htmd_law_returning.specs.NoAnchors.{items_have_no_anchors}
+use Rattle.htmd_law_returning.specs.SettledDocuments.{is_one_line, behind_box}
 use Rattle.htmd_law_returning.specs.WholeLines.{begins_white, is_gap, is_same_around}
 
 -- ---- where they stand
 
--- what shows first
+-- from what shows first on
 abbrev pub past_gaps : Inlines → Inlines
 past_gaps no_inlines = no_inlines
 past_gaps (inline x xs) = if is_gap x || is_anchor x then past_gaps xs else inline x xs
@@ -46,9 +48,6 @@ module _ (is_id : List ℕ → Bool) where
         inline_keeps x && not (is_anchor x && begins_white xs) && not (goes_on x (past_gaps xs)) && all_keep xs
 
 -- an id is one line
-abbrev pub keeps_anchors : Inline → Bool
-keeps_anchors x = inline_keeps is_one_line x
-
 abbrev pub line_keeps : Inlines → Bool
 line_keeps xs = all_keep is_one_line xs
 
@@ -57,62 +56,77 @@ abbrev pub heading_keeps : Inlines → Bool
 heading_keeps (inline (anchor id) xs) = heading_keeps xs
 heading_keeps xs = have_no_anchors xs
 
--- anchors alone
-abbrev pub is_alone : Block → Bool
-is_alone (paragraph content) = are_anchors content
-is_alone b = false
-
--- these stand right before a code block, or at the end of the document
-abbrev pub stand_alone : Bool → Blocks → Bool
-stand_alone is_end no_blocks = is_end
-stand_alone is_end (block (code_block language s) bs) = true
-stand_alone is_end bs = false
-
 -- what heads others
 abbrev pub is_headed_element : BlockElement → Bool
 is_headed_element an.Summary = true
 is_headed_element an.Term = true
 is_headed_element an.FigureCaption = true
+is_headed_element an.Caption = true
 is_headed_element name = false
 
--- the anchors in it stand at its beginning
-abbrev pub title_keeps : Blocks → Bool
-title_keeps (block (paragraph content) bs) = heading_keeps content && blocks_have_no_anchors bs
-title_keeps (block (heading level content) bs) = blocks_have_no_anchors bs
-title_keeps bs = blocks_have_no_anchors bs
+abbrev mutual
+  -- nothing is in it but thematic breaks
+  pub is_unseen : Block → Bool
+  is_unseen (quote content) = are_unseen content
+  is_unseen thematic_break = true
+  is_unseen (list start is_tight items) = items_unseen items
+  is_unseen (element name attributes content) = are_unseen content
+  is_unseen b = false
 
--- with lines of a kind
-module _ (is_line : Inlines → Bool) where
-  abbrev mutual
-    pub block_is_placed : Block → Bool
-    block_is_placed (paragraph content) = is_line content
-    block_is_placed (heading level content) = is_line content && heading_keeps content
-    block_is_placed (quote content) = are_placed false content
-    block_is_placed (list start is_tight items) = items_are_placed items
-    block_is_placed (table alignments header rows) =
-        list_all is_line header && list_all (list_all is_line) rows
-    block_is_placed (element name attributes content) =
-        are_placed false content && (not (is_headed_element name) || title_keeps content)
-    block_is_placed b = true
+  pub are_unseen : Blocks → Bool
+  are_unseen no_blocks = true
+  are_unseen (block b bs) = is_unseen b && are_unseen bs
 
-    -- whether the document ends with these
-    pub are_placed : Bool → Blocks → Bool
-    are_placed is_end no_blocks = true
-    are_placed is_end (block b bs) =
-        block_is_placed b && (not (is_alone b) || stand_alone is_end bs) && are_placed is_end bs
+  pub items_unseen : Items → Bool
+  items_unseen no_items = true
+  items_unseen (item bs rest) = are_unseen bs && items_unseen rest
 
-    pub items_are_placed : Items → Bool
-    items_are_placed no_items = true
-    items_are_placed (item bs rest) = are_placed false bs && items_are_placed rest
+-- the anchors of cells stand at the beginning of the first in which something is
+abbrev pub cells_lead : List Inlines → Bool
+cells_lead [] = true
+cells_lead (c ∷ cs) = heading_keeps c && (if has_none c then cells_lead cs else list_all have_no_anchors cs)
 
-abbrev pub block_keeps : Block → Bool
-block_keeps b = block_is_placed line_keeps b
+abbrev mutual
+  -- the anchors of a block stand at its beginning, or behind the box of a task there; in a heading and in what heads
+  -- others they do so anyway
+  pub block_leads : Block → Bool
+  block_leads (paragraph content) = heading_keeps (behind_box content)
+  block_leads (heading level content) = true
+  block_leads (quote content) = title_keeps content
+  block_leads (list start is_tight items) = items_lead items
+  block_leads (table alignments header rows) = cells_lead header && list_all (list_all have_no_anchors) rows
+  block_leads (element name attributes content) = is_headed_element name || title_keeps content
+  block_leads b = block_has_no_anchors b
 
-abbrev pub blocks_keep : Bool → Blocks → Bool
-blocks_keep is_end d = are_placed line_keeps is_end d
+  -- the anchors in it stand at the beginning of a line, behind nothing but thematic breaks
+  pub title_keeps : Blocks → Bool
+  title_keeps no_blocks = true
+  title_keeps (block b bs) = block_leads b && (if is_unseen b then title_keeps bs else blocks_have_no_anchors bs)
 
-abbrev pub items_keep : Items → Bool
-items_keep items = items_are_placed line_keeps items
+  pub items_lead : Items → Bool
+  items_lead no_items = true
+  items_lead (item bs rest) = title_keeps bs && (if are_unseen bs then items_lead rest else items_have_no_anchors rest)
+
+-- so it is in each line, heading and title
+abbrev mutual
+  pub block_lines_stand : Block → Bool
+  block_lines_stand (paragraph content) = line_keeps content
+  block_lines_stand (heading level content) = line_keeps content && heading_keeps content
+  block_lines_stand (quote content) = lines_stand content
+  block_lines_stand (list start is_tight items) = item_lines_stand items
+  block_lines_stand (table alignments header rows) =
+      list_all line_keeps header && list_all (list_all line_keeps) rows
+  block_lines_stand (element name attributes content) =
+      lines_stand content && (not (is_headed_element name) || title_keeps content)
+  block_lines_stand b = true
+
+  pub lines_stand : Blocks → Bool
+  lines_stand no_blocks = true
+  lines_stand (block b bs) = block_lines_stand b && lines_stand bs
+
+  pub item_lines_stand : Items → Bool
+  item_lines_stand no_items = true
+  item_lines_stand (item bs rest) = lines_stand bs && item_lines_stand rest
 
 -- ---- their lines
 
@@ -147,7 +161,7 @@ abbrev mutual
 
 -- where each anchor is a place of its own
 abbrev pub anchors_stand : Blocks → Bool
-anchors_stand d = blocks_keep true d && has_unique_ids d
+anchors_stand d = lines_stand d && all_stand true d && has_unique_ids d
 
 -- ---- the links to them
 

@@ -5,6 +5,7 @@ pub mod NoAnchors
 pub mod FittedRows
 pub mod WholeLines
 pub mod SettledTables
+pub mod ElementPlaces
 pub mod SettledDocuments
 pub mod LastingAnchors
 pub mod EncodedDocuments

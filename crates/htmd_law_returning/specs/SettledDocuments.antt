@@ -1,6 +1,4 @@
--- What a page has as well: what is normal, and comes back from its page. So far paragraphs, headings, code blocks,
--- thematic breaks, quotes, lists, tables, and of elements `details`, lists of terms, figures and tables of rows, with
--- texts, codes, links, images, breaks, formats and tasks.
+-- Which normal documents are like that of a page, so that they come back from theirs.
 use Rattle.std.specs.Prelude.{ℕ, suc, ◌+◌, ◌*◌, ◌==◌, Bool, true, false, not, ◌&&◌, ◌||◌, nat_le}
 use Rattle.std.specs.Prelude.{nat_lt}
 use Rattle.std.specs.Prelude.{if◌then◌else◌, List, [], ◌∷◌, length}
@@ -25,7 +23,8 @@ use Rattle.htmd_commonmark_reading.specs.Rendering.{stays_in_address}
 use Rattle.htmd_document_of_tree.specs.Limits.{characters, always_written, Written, nothing_written, with_text}
 use Rattle.htmd_document.specs.NormalDocuments.{item_count, ends_filled}
 use Rattle.htmd_document.specs.NormalInlines.{has_none}
-use Rattle.htmd_document.specs.TightItems.{is_tight_item, is_filled}
+use Rattle.htmd_document.specs.TightItems.{is_tight_item}
+use Rattle.htmd_flow.specs.DescriptionViews.{is_filled_element}
 use Rattle.htmd_flow.specs.Languages.{is_name, is_none}
 use Rattle.htmd_flow.specs.Lists.{holds_paragraph, greatest_in}
 use Rattle.htmd_shown.specs.Attributes.{in_line, is_to_part}
@@ -34,11 +33,12 @@ use Rattle.htmd_shown.specs.ShownTexts.{is_shown}
 use Rattle.htmd_shown.specs.Spaces.{is_blank_text}
 use Rattle.htmd_shown.specs.Pieces.{greatest_count}
 use Rattle.htmd_shown.specs.Marks.{is_one, is_usual_sign, letters}
-use Rattle.htmd_law_returning.specs.SettledTables.{is_border_at_most, are_rows_of_element, rows_in, is_settled_cell}
-use Rattle.htmd_law_returning.specs.SettledTables.{is_lean}
+use Rattle.htmd_law_returning.specs.ElementPlaces.{in_flow, inside, is_mixed, stands_here}
+use Rattle.htmd_law_returning.specs.SettledTables.{is_border_at_most, are_rows_of_element, rows_in, are_of_cell}
+use Rattle.htmd_law_returning.specs.SettledTables.{end_at_captions}
 use Rattle.htmd_law_returning.specs.WholeLines.{begins_white_text, ends_white_text, is_whole}
 
--- a page shows no U+FEFF
+-- a page shows neither U+0000 nor U+FEFF
 abbrev pub is_plain_text : List ℕ → Bool
 is_plain_text s = list_all is_shown (chars s)
 
@@ -200,89 +200,56 @@ abbrev pub has_no_attributes : List BlockAttribute → Bool
 has_no_attributes [] = true
 has_no_attributes (a ∷ rest) = false
 
--- it is an element in which something stands
-abbrev pub is_filled_element : Block → Bool
-is_filled_element (element name attributes content) = is_filled content
-is_filled_element b = false
-
+-- something stands in an element of these
 abbrev pub has_filled_element : Blocks → Bool
 has_filled_element no_blocks = false
 has_filled_element (block b bs) = is_filled_element b || has_filled_element bs
 
--- as in a heading, in a paragraph a link that is a sign alone stands for its own place
-abbrev pub is_title_line : Block → Bool
-is_title_line (paragraph content) = are_away content
-is_title_line (heading level content) = true
-is_title_line b = false
+-- in a title, as in a heading, no link is for its own place
+abbrev mutual
+  pub block_is_away : Block → Bool
+  block_is_away (paragraph content) = are_away content
+  block_is_away (heading level content) = are_away content
+  block_is_away (quote content) = blocks_are_away content
+  block_is_away (list start is_tight items) = items_are_away items
+  block_is_away (table alignments header rows) = list_all are_away header && list_all (list_all are_away) rows
+  block_is_away (element name attributes content) = blocks_are_away content
+  block_is_away b = true
 
--- so far paragraphs and headings
-abbrev pub is_title : Blocks → Bool
-is_title no_blocks = true
-is_title (block b bs) = is_title_line b && is_title bs
+  pub blocks_are_away : Blocks → Bool
+  blocks_are_away no_blocks = true
+  blocks_are_away (block b bs) = block_is_away b && blocks_are_away bs
 
--- a caption of a figure is so far a paragraph
-abbrev pub is_caption : Blocks → Bool
-is_caption (block (paragraph content) no_blocks) = are_away content
-is_caption content = false
+  pub items_are_away : Items → Bool
+  items_are_away no_items = true
+  items_are_away (item bs rest) = blocks_are_away bs && items_are_away rest
 
 abbrev pub is_of_figure : Block → Bool
 is_of_figure (element an.FigureCaption attributes content) = true
 is_of_figure b = false
 
--- beside captions stand so far paragraphs, quotes and thematic breaks
-abbrev pub are_in_figure : Blocks → Bool
-are_in_figure no_blocks = true
-are_in_figure (block b bs) = (is_of_figure b || is_lean b) && are_in_figure bs
-
 abbrev pub has_caption : Blocks → Bool
 has_caption no_blocks = false
 has_caption (block b bs) = is_of_figure b || has_caption bs
 
--- a `details` is open or not, something stands in a term or a meaning of each list of these, summaries and terms are
--- titles, and a figure has a caption; a table has a border of 1 at most, and rows and cells that come back: else a page
--- has what is in it
+-- a `details` is open or not, something stands in a term or a meaning of each list of these, summaries, terms and
+-- captions are titles, and a figure has a caption; a table has a border of 1 at most, and captions, rows and cells that
+-- come back: else a page has what is in it
 abbrev pub is_settled_element : BlockElement → List BlockAttribute → Blocks → Bool
 is_settled_element an.Details attributes content = is_open_at_most attributes
-is_settled_element an.Summary attributes content = has_no_attributes attributes && is_title content
+is_settled_element an.Summary attributes content = has_no_attributes attributes && blocks_are_away content
 is_settled_element an.Terms attributes content = has_no_attributes attributes && has_filled_element content
-is_settled_element an.Term attributes content = has_no_attributes attributes && is_title content
+is_settled_element an.Term attributes content = has_no_attributes attributes && blocks_are_away content
 is_settled_element an.Meaning attributes content = has_no_attributes attributes
-is_settled_element an.Figure attributes content =
-    has_no_attributes attributes && (are_in_figure content && has_caption content)
-is_settled_element an.FigureCaption attributes content = has_no_attributes attributes && is_caption content
+is_settled_element an.Figure attributes content = has_no_attributes attributes && has_caption content
+is_settled_element an.FigureCaption attributes content = has_no_attributes attributes && blocks_are_away content
 is_settled_element an.Table attributes content =
-    is_border_at_most attributes && are_rows_of_element attributes (rows_in None content)
+    is_border_at_most attributes
+    && (end_at_captions (rows_in None content) && are_rows_of_element attributes (rows_in None content))
+is_settled_element an.Caption attributes content = has_no_attributes attributes && blocks_are_away content
 is_settled_element an.Row attributes content = has_no_attributes attributes
-is_settled_element an.Cell attributes content = is_settled_cell attributes content
-is_settled_element an.HeaderCell attributes content = is_settled_cell attributes content
-is_settled_element name attributes content = false
-
--- the parts of an element, which stand in it alone
-abbrev pub is_part : BlockElement → BlockElement → Bool
-is_part an.Details an.Summary = true
-is_part an.Figure an.FigureCaption = true
-is_part an.Terms an.Term = true
-is_part an.Terms an.Meaning = true
-is_part an.Table an.Row = true
-is_part an.Row an.Cell = true
-is_part an.Row an.HeaderCell = true
-is_part outer name = false
-
-abbrev pub has_parts_alone : BlockElement → Bool
-has_parts_alone an.Terms = true
-has_parts_alone an.Table = true
-has_parts_alone an.Row = true
-has_parts_alone name = false
-
-abbrev pub stands_anywhere : BlockElement → Bool
-stands_anywhere an.Details = true
-stands_anywhere an.Figure = true
-stands_anywhere an.Terms = true
-stands_anywhere an.Table = true
-stands_anywhere name = false
-
-abbrev pub may_stand_in : BlockElement → BlockElement → Bool
-may_stand_in outer name = is_part outer name || (not (has_parts_alone outer) && stands_anywhere name)
+is_settled_element an.Cell attributes content = are_of_cell attributes
+is_settled_element an.HeaderCell attributes content = are_of_cell attributes
 
 -- ---- blocks
 
@@ -296,16 +263,16 @@ abbrev mutual
   is_settled_block (list start is_tight items) = is_right_list is_tight items && are_settled_items items
   is_settled_block (table alignments header rows) = is_settled_table header rows
   is_settled_block (element name attributes content) =
-      stands_anywhere name && is_settled_element name attributes content && are_settled_in name content
+      stands_here in_flow name && is_settled_element name attributes content && are_settled_in name content
   is_settled_block b = false
 
   -- what stands in an element: its parts, and what stands anywhere
   pub are_settled_in : BlockElement → Blocks → Bool
   are_settled_in outer no_blocks = true
   are_settled_in outer (block (element name attributes content) bs) =
-      (may_stand_in outer name && is_settled_element name attributes content && are_settled_in name content)
+      (stands_here (inside outer) name && is_settled_element name attributes content && are_settled_in name content)
       && are_settled_in outer bs
-  are_settled_in outer (block b bs) = (not (has_parts_alone outer) && is_settled_block b) && are_settled_in outer bs
+  are_settled_in outer (block b bs) = (is_mixed (inside outer) && is_settled_block b) && are_settled_in outer bs
 
   pub are_settled_blocks : Blocks → Bool
   are_settled_blocks no_blocks = true
