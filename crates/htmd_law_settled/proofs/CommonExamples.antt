@@ -13,6 +13,7 @@ use Rattle.htmd_document.specs.Documents.{inline}
 use Rattle.htmd_document.specs.Documents.{Block, paragraph, heading, code_block, quote, list, table, element, Blocks}
 use Rattle.htmd_document.specs.Documents.{no_blocks, block}
 use Rattle.htmd_document.specs.Documents.{Items, no_items, item}
+use Rattle.htmd_document.specs.LoneAnchors.{all_stand}
 use Rattle.htmd_document.specs.declared.document.BlockElement.{BlockElement}
 use Rattle.htmd_document.specs.declared.document.BlockElement.TheVariants as name
 use Rattle.htmd_grammar.specs.HtmlDocuments.{below_body}
@@ -31,7 +32,10 @@ use Rattle.htmd_law_rendering.specs.RenderedTrees.{pairs_of_link}
 use Rattle.htmd_law_returning.specs.EncodedDocuments.{encoded}
 use Rattle.htmd_law_returning.specs.ReturningLaws.{whole_sight}
 use Rattle.htmd_law_returning.specs.ComingBack.{SettledComeBack}
-use Rattle.htmd_law_settled.specs.StandingElements.{in_flow, are_placed}
+use Rattle.htmd_law_returning.specs.ElementPlaces.{in_flow}
+use Rattle.htmd_law_settled.specs.StandingElements.{blocks_stand}
+use Rattle.htmd_law_settled.specs.Leaves.{are_blocks_of}
+use Rattle.htmd_law_settled.specs.NeatLeaves.{neat}
 use Rattle.htmd_law_settled.specs.CommonDocuments as common
 use Rattle.htmd_law_settled.specs.PageLaws.{ComesBack}
 use Rattle.htmd_law_settled.proofs.PageLemmas.{come-back}
@@ -151,30 +155,72 @@ around_a_line : is_common (a_figure (paragraph broken)) ≡ true
 unfolding chars encode
 around_a_line = refl
 
--- so far not around code
-around_code : is_common (a_figure (code_block None (codes "a"))) ≡ false
+-- around code, a list and a figure
+around_code : is_common (a_figure (code_block None (codes "a"))) ≡ true
 unfolding chars encode
 around_code = refl
+
+around_a_figure : is_common (a_figure (list None true (item (a_figure (heading 2 broken)) no_items))) ≡ true
+unfolding chars encode
+around_a_figure = refl
 
 an_anchor : is_common (line (inline (anchor (codes "a")) (inline (text (codes "b")) no_inlines))) ≡ true
 unfolding chars encode
 an_anchor = refl
 
-an_anchor_within_a_heading : is_common (block (heading 2 (inline (text (codes "a")) (inline (anchor (codes "b"))
+-- no page's document has one within a heading
+an_anchor_within_a_heading : are_blocks_of neat
+    (block (heading 2 (inline (text (codes "a")) (inline (anchor (codes "b"))
     (inline (text (codes "c")) no_inlines)))) no_blocks) ≡ false
 unfolding chars encode
 an_anchor_within_a_heading = refl
 
--- alone, right before a code block and before a paragraph
-an_anchor_before_code : is_common (block (paragraph (inline (anchor (codes "a")) no_inlines))
-    (block (code_block None (codes "b")) no_blocks)) ≡ true
+an_anchor_before_a_heading : are_blocks_of neat (block (heading 2 (inline (anchor (codes "b"))
+    (inline (text (codes "c")) no_inlines))) no_blocks) ≡ true
 unfolding chars encode
-an_anchor_before_code = refl
+an_anchor_before_a_heading = refl
 
-an_anchor_before_a_paragraph : is_common (block (paragraph (inline (anchor (codes "a")) no_inlines)) (line broken))
-    ≡ false
+-- at the beginning of a title, and behind what shows in a title, a term, and what one means
+abbrev titled_by : Inlines → Blocks
+titled_by xs = block (element name.Details [] (block (element name.Summary [] (line xs)) no_blocks)) no_blocks
+
+an_anchor_before_a_title : are_blocks_of neat (titled_by (inline (anchor (codes "a"))
+    (inline (text (codes "b")) no_inlines))) ≡ true
 unfolding chars encode
-an_anchor_before_a_paragraph = refl
+an_anchor_before_a_title = refl
+
+abbrev anchored_within : Inlines
+anchored_within =
+    inline (text (codes "a")) (inline (anchor (codes "b")) (inline (text (codes "c")) no_inlines))
+
+an_anchor_within_a_title : are_blocks_of neat (titled_by anchored_within) ≡ false
+unfolding chars encode
+an_anchor_within_a_title = refl
+
+an_anchor_within_a_term : are_blocks_of neat (block (element name.Term [] (line anchored_within)) no_blocks) ≡ false
+unfolding chars encode
+an_anchor_within_a_term = refl
+
+an_anchor_within_a_meaning : are_blocks_of neat (block (element name.Meaning [] (line anchored_within)) no_blocks)
+    ≡ true
+unfolding chars encode
+an_anchor_within_a_meaning = refl
+
+-- alone, right before a code block, at the end, before a paragraph, and at the end of a quote
+abbrev anchors_alone : Blocks → Blocks
+anchors_alone bs = block (paragraph (inline (anchor (codes "a")) no_inlines)) bs
+
+anchors_before_code : all_stand true (anchors_alone (block (code_block None (codes "b")) no_blocks)) ≡ true
+anchors_before_code = refl
+
+anchors_at_the_end : all_stand true (anchors_alone no_blocks) ≡ true
+anchors_at_the_end = refl
+
+anchors_before_a_paragraph : all_stand true (anchors_alone (line broken)) ≡ false
+anchors_before_a_paragraph = refl
+
+anchors_in_a_quote : all_stand true (block (quote (anchors_alone no_blocks)) no_blocks) ≡ false
+anchors_in_a_quote = refl
 
 -- rows around a caption stand where HTML has them, a cell outside a row doesn't
 abbrev holding : BlockElement → Blocks → Blocks
@@ -191,10 +237,10 @@ a_cell_alone : elements_are_strict below_body (holding name.Cell (line broken)) 
 a_cell_alone = refl
 
 -- a summary stands in a `details`, a caption of a figure doesn't
-a_summary_there : are_placed in_flow (holding name.Details (block (around_a_text name.Summary) no_blocks)) ≡ true
+a_summary_there : blocks_stand in_flow (holding name.Details (block (around_a_text name.Summary) no_blocks)) ≡ true
 a_summary_there = refl
 
-a_caption_there : are_placed in_flow (holding name.Details (block (around_a_text name.FigureCaption) no_blocks))
+a_caption_there : blocks_stand in_flow (holding name.Details (block (around_a_text name.FigureCaption) no_blocks))
     ≡ false
 a_caption_there = refl
 
@@ -213,6 +259,17 @@ a_tight_list : is_common (block
     no_blocks)) no_items)) no_blocks) ≡ true
 unfolding chars encode
 a_tight_list = refl
+
+-- a cell holds what a document does: code and a list, in which a table stands
+abbrev a_full_cell : Block → Block
+a_full_cell b =
+    element name.Table [] (block (element name.Row [] (block (element name.HeaderCell []
+    (block b (block (code_block None (codes "a")) no_blocks))) no_blocks)) no_blocks)
+
+a_table_of_full_cells : is_common (block (a_full_cell (list None true
+    (item (block (a_full_cell (heading 2 broken)) no_blocks) no_items))) no_blocks) ≡ true
+unfolding chars encode
+a_table_of_full_cells = refl
 
 -- with a break in a cell
 a_table : is_common (block (table (align.None ∷ align.Right ∷ []) (broken ∷ no_inlines ∷ [])
@@ -313,3 +370,29 @@ linked_document_is_common : common.is_common which.Linked (encoded linked_docume
 unfolding chars encode role_of table_role heading_or_block block_role inline_role element_role shown document_by
     document_of_tree node_of percent_decode utf8_lossy utf8_valid_len is_utf8
 linked_document_is_common = refl
+
+-- <a href="#x"><h2 id="x">b</h2></a>: no other link leads there, and from this document the anchor goes
+abbrev around_its_heading : NumberedTree
+around_its_heading =
+    node.document 0 (node.more (node.element 1 (codes "a") (pairs_of_link (codes "#x") None)
+    (node.more (node.element 2 (codes "h2") (pairs_of_anchor (codes "x"))
+    (node.more (node.text 3 (codes "b")) node.none)) node.none)) node.none)
+
+abbrev led_by_itself : Blocks
+led_by_itself = document_of_tree which.Linked sight around_its_heading
+
+its_link_is_within : led_by_itself ≡ block (heading 2 (inline (anchor (codes "x")) (inline (link (codes "#x") None
+    (inline (text (codes "b")) no_inlines)) no_inlines))) no_blocks
+unfolding chars encode role_of table_role heading_or_block block_role inline_role element_role shown document_by
+    document_of_tree node_of percent_decode
+its_link_is_within = refl
+
+led_by_itself_is_not_common : common.is_common which.Linked (encoded led_by_itself) ≡ false
+unfolding chars encode role_of table_role heading_or_block block_role inline_role element_role shown document_by
+    document_of_tree node_of percent_decode utf8_lossy utf8_valid_len is_utf8
+led_by_itself_is_not_common = refl
+
+with_all_it_is : common.is_common which.All (encoded led_by_itself) ≡ true
+unfolding chars encode role_of table_role heading_or_block block_role inline_role element_role shown document_by
+    document_of_tree node_of percent_decode utf8_lossy utf8_valid_len is_utf8
+with_all_it_is = refl

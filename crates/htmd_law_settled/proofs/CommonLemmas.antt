@@ -12,14 +12,14 @@ use Rattle.htmd_document.specs.Documents.{thematic_break, list, table, element, 
 use Rattle.htmd_document.specs.Documents.{Items, no_items, item, BlockAttribute}
 use Rattle.htmd_document.specs.declared.document.BlockElement.{BlockElement}
 use Rattle.htmd_document.specs.declared.document.BlockElement.TheVariants as an
+use Rattle.htmd_law_returning.specs.LastingAnchors.{heading_keeps, title_keeps}
 use Rattle.htmd_law_returning.specs.SettledDocuments.{are_away}
 use Rattle.htmd_law_returning.specs.SettledDocuments.{is_white_at_break}
 use Rattle.htmd_law_returning.specs.SettledDocuments.{is_right_list, shows_last_column}
 use Rattle.htmd_law_returning.specs.SettledDocuments.{is_settled_inline, are_settled_inlines, is_settled_line}
 use Rattle.htmd_law_returning.specs.SettledDocuments.{is_settled_link, is_settled_block, is_settled_element}
 use Rattle.htmd_law_returning.specs.SettledDocuments.{are_settled_blocks, are_settled_items}
-use Rattle.htmd_law_returning.specs.SettledDocuments.{are_settled_in, stands_anywhere, may_stand_in, has_parts_alone}
-use Rattle.htmd_document.specs.declared.document.BlockElement.{BlockElement}
+use Rattle.htmd_law_returning.specs.SettledDocuments.{are_settled_in}
 use Rattle.htmd_law_returning.specs.WholeLines.{is_whole}
 use Rattle.htmd_law_returning.proofs.BoxLemmas.{characters-behind-space}
 use Rattle.htmd_shown.specs.ShownTexts.{is_shown}
@@ -33,16 +33,16 @@ use Rattle.htmd_law_settled.specs.NeatLeaves.{neat, is_box_spaced, is_neat_line,
 use Rattle.htmd_law_settled.specs.NeatLeaves.{is_neat_element}
 use Rattle.htmd_law_settled.proofs.PlainBlocks.{is_plain_inline, are_plain_inlines, is_plain_block, are_plain_blocks}
 use Rattle.htmd_law_settled.proofs.PlainBlocks.{are_plain_items, no-box}
-use Rattle.htmd_law_settled.specs.StandingElements.{Holder, in_flow, inside, is_mixed, stands_here, is_placed_block}
-use Rattle.htmd_law_settled.specs.StandingElements.{are_placed, are_placed_items}
+use Rattle.htmd_law_returning.specs.ElementPlaces.{Holder, in_flow, inside, is_mixed, stands_here}
+use Rattle.htmd_law_settled.specs.StandingElements.{block_stands, blocks_stand, items_stand}
 use Rattle.htmd_law_returning.specs.SettledDocuments.{behind_box, is_settled_paragraph}
 use Rattle.htmd_law_settled.specs.CommonDocuments.{is_common_block, are_common_blocks, are_common_items}
-use Rattle.htmd_law_returning.specs.SettledTables.{is_border_at_most, are_rows_of_element, rows_in, takes_one_row}
-use Rattle.htmd_law_returning.specs.SettledTables.{are_of_cell, are_lean, is_settled_cell}
-use Rattle.htmd_law_settled.specs.NeatLeaves.{is_neat_cell, is_neat_table, are_single_cells, are_single_rows}
+use Rattle.htmd_law_returning.specs.SettledTables.{is_border_at_most, are_rows_of_element, rows_in, rows_are_read}
+use Rattle.htmd_law_returning.specs.SettledTables.{are_of_cell, end_at_captions}
+use Rattle.htmd_law_settled.specs.NeatLeaves.{is_neat_cell, is_neat_table, are_read_cells, are_read_rows}
 use Rattle.htmd_law_settled.specs.CommonDocuments.{is_common_element}
-use Rattle.htmd_law_returning.specs.SettledDocuments.{has_no_attributes, has_filled_element, is_title}
-use Rattle.htmd_law_returning.specs.SettledDocuments.{are_in_figure, has_caption, is_caption}
+use Rattle.htmd_law_returning.specs.SettledDocuments.{has_no_attributes, has_filled_element, blocks_are_away}
+use Rattle.htmd_law_returning.specs.SettledDocuments.{has_caption}
 
 -- ---- settled
 
@@ -153,151 +153,121 @@ own-header : (attributes : List BlockAttribute) → has_neat_attributes an.Heade
 own-header [] n = refl
 own-header (a ∷ rest) n = n
 
-cell-settled : (attributes : List BlockAttribute) (content : Blocks) → is_neat_cell attributes ≡ true
-    → (takes_one_row attributes && are_lean content) ≡ true → is_settled_cell attributes content ≡ true
-cell-settled attributes content n c =
-    let p = and_parts (takes_one_row attributes) (are_lean content) c in
-    and_from (are_of_cell attributes && takes_one_row attributes) (are_lean content)
-    (and_from (are_of_cell attributes) (takes_one_row attributes)
-    (sym (ap (λ b. not b || are_of_cell attributes) p.0) ∙ n) p.0) p.1
+cell-settled : (attributes : List BlockAttribute) → is_neat_cell attributes ≡ true
+    → rows_are_read attributes ≡ true → are_of_cell attributes ≡ true
+cell-settled attributes n c = sym (ap (λ b. not b || are_of_cell attributes) c) ∙ n
 
 -- ---- where they stand
-
-anywhere : (name : BlockElement) → stands_here in_flow name ≡ true → stands_anywhere name ≡ true
-anywhere an.Details e = refl
-anywhere an.Figure e = refl
-anywhere an.Terms e = refl
-anywhere an.Table e = refl
-anywhere name e = absurd (false≢true e)
-
--- so far captions of tables aren't common
-may-stand : (outer name : BlockElement) (attributes : List BlockAttribute) (content : Blocks)
-    → stands_here (inside outer) name ≡ true → is_common_element name attributes content ≡ true
-    → may_stand_in outer name ≡ true
-may-stand an.Details an.Summary attributes content e c = refl
-may-stand an.Figure an.FigureCaption attributes content e c = refl
-may-stand an.Terms an.Term attributes content e c = refl
-may-stand an.Terms an.Meaning attributes content e c = refl
-may-stand an.Table an.Caption attributes content e c = absurd (false≢true c)
-may-stand an.Table an.Row attributes content e c = refl
-may-stand an.Row an.Cell attributes content e c = refl
-may-stand an.Row an.HeaderCell attributes content e c = refl
-may-stand an.Terms name attributes content e c = absurd (false≢true e)
-may-stand an.Table name attributes content e c = absurd (false≢true e)
-may-stand an.Row name attributes content e c = absurd (false≢true e)
-may-stand outer an.Details attributes content e c = refl
-may-stand outer an.Figure attributes content e c = refl
-may-stand outer an.Terms attributes content e c = refl
-may-stand outer an.Table attributes content e c = refl
-may-stand outer name attributes content e c = absurd (false≢true e)
-
-free : (outer : BlockElement) → is_mixed (inside outer) ≡ true → not (has_parts_alone outer) ≡ true
-free an.Terms e = absurd (false≢true e)
-free an.Table e = absurd (false≢true e)
-free an.Row e = absurd (false≢true e)
-free outer e = refl
 
 abbrev is_element : Block → Bool
 is_element (element name attributes content) = true
 is_element b = false
 
 -- what is no element stands where anything does
-other-placed : (o : Holder) (b : Block) → is_element b ≡ false → is_placed_block o b ≡ true
-    → (is_mixed o ≡ true) × (is_placed_block in_flow b ≡ true)
+other-placed : (o : Holder) (b : Block) → is_element b ≡ false → block_stands o b ≡ true
+    → (is_mixed o ≡ true) × (block_stands in_flow b ≡ true)
 other-placed o (element name attributes content) e h = absurd (false≢true (sym e))
-other-placed o (quote content) e h = and_parts (is_mixed o) (are_placed in_flow content) h
-other-placed o (list start is_tight items) e h = and_parts (is_mixed o) (are_placed_items items) h
+other-placed o (quote content) e h = and_parts (is_mixed o) (blocks_stand in_flow content) h
+other-placed o (list start is_tight items) e h = and_parts (is_mixed o) (items_stand items) h
 other-placed o b e h = (h, refl)
 
--- ---- rows of cells that are common take one row each
+-- ---- the rows of common cells are read as they are
 
-single-cell : (name : BlockElement) (attributes : List BlockAttribute) (content : Blocks)
+read-cell : (name : BlockElement) (attributes : List BlockAttribute) (content : Blocks)
     → stands_here (inside an.Row) name ≡ true → is_common_element name attributes content ≡ true
-    → takes_one_row attributes ≡ true
-single-cell an.Cell attributes content e c = (and_parts (takes_one_row attributes) (are_lean content) c).0
-single-cell an.HeaderCell attributes content e c = (and_parts (takes_one_row attributes) (are_lean content) c).0
-single-cell name attributes content e c = absurd (false≢true e)
+    → rows_are_read attributes ≡ true
+read-cell an.Cell attributes content e c = c
+read-cell an.HeaderCell attributes content e c = c
+read-cell name attributes content e c = absurd (false≢true e)
 
-single-cells : (bs : Blocks) → are_placed (inside an.Row) bs ≡ true → are_common_blocks bs ≡ true
-    → are_single_cells bs ≡ true
-single-cells no_blocks s c = refl
-single-cells (block (element name attributes content) bs) s c =
+read-cells : (bs : Blocks) → blocks_stand (inside an.Row) bs ≡ true → are_common_blocks bs ≡ true
+    → are_read_cells bs ≡ true
+read-cells no_blocks s c = refl
+read-cells (block (element name attributes content) bs) s c =
     let o = inside an.Row in
     let is_common = is_common_element name attributes content in
     let r = and_parts (is_common && are_common_blocks content) (are_common_blocks bs) c in
-    let u = and_parts (stands_here o name && are_placed (inside name) content) (are_placed o bs) s in
-    and_from (takes_one_row attributes) (are_single_cells bs)
-    (single-cell name attributes content (and_parts (stands_here o name) (are_placed (inside name) content) u.0).0
-    (and_parts is_common (are_common_blocks content) r.0).0) (single-cells bs u.1 r.1)
-single-cells (block b bs) s c =
+    let u = and_parts (stands_here o name && blocks_stand (inside name) content) (blocks_stand o bs) s in
+    and_from (rows_are_read attributes) (are_read_cells bs)
+    (read-cell name attributes content (and_parts (stands_here o name) (blocks_stand (inside name) content) u.0).0
+    (and_parts is_common (are_common_blocks content) r.0).0) (read-cells bs u.1 r.1)
+read-cells (block b bs) s c =
     let o = inside an.Row in
-    absurd (false≢true (other-placed o b refl (and_parts (is_placed_block o b) (are_placed o bs) s).0).0)
+    absurd (false≢true (other-placed o b refl (and_parts (block_stands o b) (blocks_stand o bs) s).0).0)
 
-single-row : (name : BlockElement) (attributes : List BlockAttribute) (content bs : Blocks)
+read-row : (name : BlockElement) (attributes : List BlockAttribute) (content bs : Blocks)
     → stands_here (inside an.Table) name ≡ true → is_common_element name attributes content ≡ true
-    → are_placed (inside name) content ≡ true → are_common_blocks content ≡ true → are_single_rows bs ≡ true
-    → are_single_rows (block (element name attributes content) bs) ≡ true
-single-row an.Row attributes content bs e c s d rest =
-    and_from (are_single_cells content) (are_single_rows bs) (single-cells content s d) rest
-single-row an.Caption attributes content bs e c s d rest = absurd (false≢true c)
-single-row name attributes content bs e c s d rest = absurd (false≢true e)
+    → blocks_stand (inside name) content ≡ true → are_common_blocks content ≡ true → are_read_rows bs ≡ true
+    → are_read_rows (block (element name attributes content) bs) ≡ true
+read-row an.Row attributes content bs e c s d rest =
+    and_from (are_read_cells content) (are_read_rows bs) (read-cells content s d) rest
+read-row an.Caption attributes content bs e c s d rest = rest
+read-row name attributes content bs e c s d rest = absurd (false≢true e)
 
-single-rows : (bs : Blocks) → are_placed (inside an.Table) bs ≡ true → are_common_blocks bs ≡ true
-    → are_single_rows bs ≡ true
-single-rows no_blocks s c = refl
-single-rows (block (element name attributes content) bs) s c =
+read-rows : (bs : Blocks) → blocks_stand (inside an.Table) bs ≡ true → are_common_blocks bs ≡ true
+    → are_read_rows bs ≡ true
+read-rows no_blocks s c = refl
+read-rows (block (element name attributes content) bs) s c =
     let o = inside an.Table in
     let is_common = is_common_element name attributes content in
     let r = and_parts (is_common && are_common_blocks content) (are_common_blocks bs) c in
     let t = and_parts is_common (are_common_blocks content) r.0 in
-    let u = and_parts (stands_here o name && are_placed (inside name) content) (are_placed o bs) s in
-    let v = and_parts (stands_here o name) (are_placed (inside name) content) u.0 in
-    single-row name attributes content bs v.0 t.0 v.1 t.1 (single-rows bs u.1 r.1)
-single-rows (block b bs) s c =
+    let u = and_parts (stands_here o name && blocks_stand (inside name) content) (blocks_stand o bs) s in
+    let v = and_parts (stands_here o name) (blocks_stand (inside name) content) u.0 in
+    read-row name attributes content bs v.0 t.0 v.1 t.1 (read-rows bs u.1 r.1)
+read-rows (block b bs) s c =
     let o = inside an.Table in
-    absurd (false≢true (other-placed o b refl (and_parts (is_placed_block o b) (are_placed o bs) s).0).0)
+    absurd (false≢true (other-placed o b refl (and_parts (block_stands o b) (blocks_stand o bs) s).0).0)
 
 element-settled : (name : BlockElement) (attributes : List BlockAttribute) (content : Blocks)
     → is_neat_element name attributes content ≡ true → is_common_element name attributes content ≡ true
-    → are_placed (inside name) content ≡ true → are_common_blocks content ≡ true
+    → blocks_stand (inside name) content ≡ true → are_common_blocks content ≡ true
     → is_settled_element name attributes content ≡ true
 element-settled an.Details [] content n c s d = refl
 element-settled an.Details (a ∷ rest) content n c s d = n
 element-settled an.Summary attributes content n c s d =
-    and_from (has_no_attributes attributes) (is_title content)
-    (no-attributes an.Summary attributes (λ a rest. refl) n) c
+    let p = and_parts (has_neat_attributes an.Summary attributes) (title_keeps content) n in
+    and_from (has_no_attributes attributes) (blocks_are_away content)
+    (no-attributes an.Summary attributes (λ a rest. refl) p.0) c
 element-settled an.Terms attributes content n c s d =
     let p = and_parts (has_neat_attributes an.Terms attributes) (has_filled_element content) n in
     and_from (has_no_attributes attributes) (has_filled_element content)
     (no-attributes an.Terms attributes (λ a rest. refl) p.0) p.1
 element-settled an.Term attributes content n c s d =
-    and_from (has_no_attributes attributes) (is_title content)
-    (no-attributes an.Term attributes (λ a rest. refl) n) c
+    let p = and_parts (has_neat_attributes an.Term attributes) (title_keeps content) n in
+    and_from (has_no_attributes attributes) (blocks_are_away content)
+    (no-attributes an.Term attributes (λ a rest. refl) p.0) c
 element-settled an.Meaning attributes content n c s d = no-attributes an.Meaning attributes (λ a rest. refl) n
 element-settled an.Figure attributes content n c s d =
     let p = and_parts (has_neat_attributes an.Figure attributes) (has_caption content) n in
-    and_from (has_no_attributes attributes) (are_in_figure content && has_caption content)
-    (no-attributes an.Figure attributes (λ a rest. refl) p.0)
-    (and_from (are_in_figure content) (has_caption content) c p.1)
+    and_from (has_no_attributes attributes) (has_caption content)
+    (no-attributes an.Figure attributes (λ a rest. refl) p.0) p.1
 element-settled an.FigureCaption attributes content n c s d =
-    and_from (has_no_attributes attributes) (is_caption content)
-    (no-attributes an.FigureCaption attributes (λ a rest. refl) n) c
+    let p = and_parts (has_neat_attributes an.FigureCaption attributes) (title_keeps content) n in
+    and_from (has_no_attributes attributes) (blocks_are_away content)
+    (no-attributes an.FigureCaption attributes (λ a rest. refl) p.0) c
 element-settled an.Table attributes content n c s d =
     let p = and_parts (has_neat_attributes an.Table attributes) (is_neat_table attributes content) n in
     let is_so = are_rows_of_element attributes (rows_in None content) in
-    and_from (is_border_at_most attributes) is_so (border-settled attributes p.0)
-    (sym (ap (λ b. not b || is_so) (single-rows content s d)) ∙ p.1)
+    and_from (is_border_at_most attributes) (end_at_captions (rows_in None content) && is_so)
+    (border-settled attributes p.0)
+    (and_from (end_at_captions (rows_in None content)) is_so c
+    (sym (ap (λ b. not b || is_so) (read-rows content s d)) ∙ p.1))
+element-settled an.Caption attributes content n c s d =
+    let p = and_parts (has_neat_attributes an.Caption attributes) (title_keeps content) n in
+    and_from (has_no_attributes attributes) (blocks_are_away content)
+    (no-attributes an.Caption attributes (λ a rest. refl) p.0) c
 element-settled an.Row attributes content n c s d = no-attributes an.Row attributes (λ a rest. refl) n
-element-settled an.Cell attributes content n c s d = cell-settled attributes content (own-cell attributes n) c
-element-settled an.HeaderCell attributes content n c s d = cell-settled attributes content (own-header attributes n) c
-element-settled name attributes content n c s d = absurd (false≢true c)
+element-settled an.Cell attributes content n c s d = cell-settled attributes (own-cell attributes n) c
+element-settled an.HeaderCell attributes content n c s d = cell-settled attributes (own-header attributes n) c
 
 mutual
   block-settled : (b : Block) → is_block_of neat b ≡ true → is_plain_block b ≡ true
-      → is_placed_block in_flow b ≡ true → is_common_block b ≡ true → is_settled_block b ≡ true
+      → block_stands in_flow b ≡ true → is_common_block b ≡ true → is_settled_block b ≡ true
   block-settled (paragraph content) n p s c = paragraph-settled content n p
   block-settled (heading level content) n p s c =
-      and_from (is_settled_line content) (are_away content) (whole-settled content n p) c
+      and_from (is_settled_line content) (are_away content)
+      (whole-settled content (and_parts (is_whole_line_of neat content) (heading_keeps content) n).0 p) c
   block-settled (code_block language t) n p s c = n
   block-settled (quote content) n p s c = blocks-settled content n p s c
   block-settled thematic_break n p s c = refl
@@ -315,64 +285,63 @@ mutual
       (cells-settled header l.0 q.0) (rows-settled rows l.1 q.1)) m.0
   block-settled (element name attributes content) n p s c =
       let m = and_parts (is_neat_element name attributes content) (are_blocks_of neat content) n in
-      let r = and_parts (stands_here in_flow name) (are_placed (inside name) content) s in
+      let r = and_parts (stands_here in_flow name) (blocks_stand (inside name) content) s in
       let q = and_parts (is_common_element name attributes content) (are_common_blocks content) c in
-      and_from (stands_anywhere name && is_settled_element name attributes content) (are_settled_in name content)
-      (and_from (stands_anywhere name) (is_settled_element name attributes content) (anywhere name r.0)
+      and_from (stands_here in_flow name && is_settled_element name attributes content) (are_settled_in name content)
+      (and_from (stands_here in_flow name) (is_settled_element name attributes content) r.0
       (element-settled name attributes content m.0 q.0 r.1 q.1)) (parts-settled name content m.1 p r.1 q.1)
   block-settled (tags t) n p s c = p
 
   parts-settled : (outer : BlockElement) (bs : Blocks) → are_blocks_of neat bs ≡ true
       → are_plain_blocks bs ≡ true
-      → are_placed (inside outer) bs ≡ true → are_common_blocks bs ≡ true → are_settled_in outer bs ≡ true
+      → blocks_stand (inside outer) bs ≡ true → are_common_blocks bs ≡ true → are_settled_in outer bs ≡ true
   parts-settled outer no_blocks n p s c = refl
   parts-settled outer (block (element name attributes content) bs) n p s c =
       let o = inside outer in
       let is_common = is_common_element name attributes content in
       let is_settled = is_settled_element name attributes content in
-      let is_placed = stands_here o name && are_placed (inside name) content in
+      let is_placed = stands_here o name && blocks_stand (inside name) content in
       let m = and_parts (is_block_of neat (element name attributes content)) (are_blocks_of neat bs) n in
       let k = and_parts (is_neat_element name attributes content) (are_blocks_of neat content) m.0 in
       let q = and_parts (are_plain_blocks content) (are_plain_blocks bs) p in
       let r = and_parts (is_common && are_common_blocks content) (are_common_blocks bs) c in
       let t = and_parts is_common (are_common_blocks content) r.0 in
-      let u = and_parts is_placed (are_placed o bs) s in
-      let v = and_parts (stands_here o name) (are_placed (inside name) content) u.0 in
-      and_from ((may_stand_in outer name && is_settled) && are_settled_in name content) (are_settled_in outer bs)
-      (and_from (may_stand_in outer name && is_settled) (are_settled_in name content)
-      (and_from (may_stand_in outer name) is_settled (may-stand outer name attributes content v.0 t.0)
+      let u = and_parts is_placed (blocks_stand o bs) s in
+      let v = and_parts (stands_here o name) (blocks_stand (inside name) content) u.0 in
+      and_from ((stands_here o name && is_settled) && are_settled_in name content) (are_settled_in outer bs)
+      (and_from (stands_here o name && is_settled) (are_settled_in name content)
+      (and_from (stands_here o name) is_settled v.0
       (element-settled name attributes content k.0 t.0 v.1 t.1))
       (parts-settled name content k.1 q.0 v.1 t.1)) (parts-settled outer bs m.1 q.1 u.1 r.1)
   parts-settled outer (block b bs) n p s c =
       let o = inside outer in
-      let is_free = not (has_parts_alone outer) in
       let m = and_parts (is_block_of neat b) (are_blocks_of neat bs) n in
       let q = and_parts (is_plain_block b) (are_plain_blocks bs) p in
       let r = and_parts (is_common_block b) (are_common_blocks bs) c in
-      let u = and_parts (is_placed_block o b) (are_placed o bs) s in
+      let u = and_parts (block_stands o b) (blocks_stand o bs) s in
       let v = other-placed o b refl u.0 in
-      and_from (is_free && is_settled_block b) (are_settled_in outer bs)
-      (and_from is_free (is_settled_block b) (free outer v.0) (block-settled b m.0 q.0 v.1 r.0))
+      and_from (is_mixed o && is_settled_block b) (are_settled_in outer bs)
+      (and_from (is_mixed o) (is_settled_block b) v.0 (block-settled b m.0 q.0 v.1 r.0))
       (parts-settled outer bs m.1 q.1 u.1 r.1)
 
   pub blocks-settled : (bs : Blocks) → are_blocks_of neat bs ≡ true → are_plain_blocks bs ≡ true
-      → are_placed in_flow bs ≡ true → are_common_blocks bs ≡ true → are_settled_blocks bs ≡ true
+      → blocks_stand in_flow bs ≡ true → are_common_blocks bs ≡ true → are_settled_blocks bs ≡ true
   blocks-settled no_blocks n p s c = refl
   blocks-settled (block b bs) n p s c =
       let m = and_parts (is_block_of neat b) (are_blocks_of neat bs) n in
       let q = and_parts (is_plain_block b) (are_plain_blocks bs) p in
-      let t = and_parts (is_placed_block in_flow b) (are_placed in_flow bs) s in
+      let t = and_parts (block_stands in_flow b) (blocks_stand in_flow bs) s in
       let r = and_parts (is_common_block b) (are_common_blocks bs) c in
       and_from (is_settled_block b) (are_settled_blocks bs) (block-settled b m.0 q.0 t.0 r.0)
       (blocks-settled bs m.1 q.1 t.1 r.1)
 
   items-settled : (items : Items) → are_items_of neat items ≡ true → are_plain_items items ≡ true
-      → are_placed_items items ≡ true → are_common_items items ≡ true → are_settled_items items ≡ true
+      → items_stand items ≡ true → are_common_items items ≡ true → are_settled_items items ≡ true
   items-settled no_items n p s c = refl
   items-settled (item bs items) n p s c =
       let m = and_parts (are_blocks_of neat bs) (are_items_of neat items) n in
       let q = and_parts (are_plain_blocks bs) (are_plain_items items) p in
-      let t = and_parts (are_placed in_flow bs) (are_placed_items items) s in
+      let t = and_parts (blocks_stand in_flow bs) (items_stand items) s in
       let r = and_parts (are_common_blocks bs) (are_common_items items) c in
       and_from (are_settled_blocks bs) (are_settled_items items) (blocks-settled bs m.0 q.0 t.0 r.0)
       (items-settled items m.1 q.1 t.1 r.1)

@@ -16,13 +16,15 @@ use Rattle.htmd_law_returning.specs.EncodedDocuments.{changed_inline, changed_in
 use Rattle.htmd_law_returning.specs.EncodedDocuments.{changed, changed_items, encoded}
 use Rattle.htmd_law_returning.specs.NoAnchors.{has_no_anchors, have_no_anchors, block_has_no_anchors}
 use Rattle.htmd_law_returning.specs.NoAnchors.{blocks_have_no_anchors, items_have_no_anchors}
-use Rattle.htmd_law_returning.specs.SettledDocuments.{is_filled_element, has_filled_element, is_of_figure, has_caption}
+use Rattle.htmd_flow.specs.DescriptionViews.{is_filled_element}
+use Rattle.htmd_law_returning.specs.SettledDocuments.{has_filled_element, is_of_figure, has_caption}
 use Rattle.htmd_law_returning.specs.SettledDocuments.{is_white_at_break, show_loose, is_right_list, are_tight_items}
 use Rattle.htmd_law_returning.specs.SettledDocuments.{stay_tight, shows_last_column, behind_box}
 use Rattle.htmd_law_returning.specs.SettledDocuments.{is_settled_address, is_settled_title, is_one_line}
 use Rattle.htmd_law_returning.specs.SettledDocuments.{block_numbers_fit, numbers_fit, item_numbers_fit}
-use Rattle.htmd_document.specs.NormalInlines.{is_anchor}
-use Rattle.htmd_law_returning.specs.LastingAnchors.{past_gaps, goes_on}
+use Rattle.htmd_document.specs.NormalInlines.{is_anchor, has_none}
+use Rattle.htmd_law_returning.specs.LastingAnchors.{past_gaps, goes_on, heading_keeps, is_unseen, are_unseen}
+use Rattle.htmd_law_returning.specs.LastingAnchors.{items_unseen, cells_lead, block_leads, title_keeps, items_lead}
 use Rattle.htmd_law_returning.specs.WholeLines.{begins_white, ends_white, is_gap, is_same_around, is_apart}
 use Rattle.htmd_law_returning.specs.WholeLines.{is_whole_inside, are_whole_inside}
 use Rattle.htmd_law_returning.proofs.AddressLemmas.{encoded-stays}
@@ -188,14 +190,6 @@ module _ (change : List ℕ → List ℕ) where
   some-caption no_blocks = refl
   some-caption (block b bs) = rw (caption-same b, some-caption bs) refl
 
-  neat-element : (name : BlockElement) (attributes : List BlockAttribute) (bs : Blocks)
-      → is_neat_element name attributes (changed change bs) ≡ is_neat_element name attributes bs
-  neat-element an.Terms attributes bs = ap (λ b. has_neat_attributes an.Terms attributes && b) (some-filled bs)
-  neat-element an.Figure attributes bs = ap (λ b. has_neat_attributes an.Figure attributes && b) (some-caption bs)
-  neat-element an.Table attributes bs =
-      ap (λ b. has_neat_attributes an.Table attributes && b) (neat-table change attributes bs)
-  neat-element name attributes bs = refl
-
   -- ---- anchors
 
   mutual
@@ -207,6 +201,11 @@ module _ (change : List ℕ → List ℕ) where
     line-anchorless : (xs : Inlines) → have_no_anchors (changed_inlines change xs) ≡ have_no_anchors xs
     line-anchorless no_inlines = refl
     line-anchorless (inline x xs) = rw (no-anchors x, line-anchorless xs) refl
+
+  pub heading-same : (xs : Inlines) → heading_keeps (changed_inlines change xs) ≡ heading_keeps xs
+  heading-same no_inlines = refl
+  heading-same (inline (anchor id) xs) = heading-same xs
+  heading-same (inline x xs) = line-anchorless (inline x xs)
 
   cells-anchorless : (cells : List Inlines)
       → list_all have_no_anchors (changed_cells change cells) ≡ list_all have_no_anchors cells
@@ -237,6 +236,64 @@ module _ (change : List ℕ → List ℕ) where
         → items_have_no_anchors (changed_items change items) ≡ items_have_no_anchors items
     items-anchorless no_items = refl
     items-anchorless (item bs rest) = rw (anchorless-same bs, items-anchorless rest) refl
+
+  -- ---- titles
+
+  mutual
+    block-unseen : (b : Block) → is_unseen (changed_block change b) ≡ is_unseen b
+    block-unseen (quote bs) = unseen-same bs
+    block-unseen (list start is_tight items) = items-same items
+    block-unseen (element name attributes bs) = unseen-same bs
+    block-unseen b = refl
+
+    unseen-same : (bs : Blocks) → are_unseen (changed change bs) ≡ are_unseen bs
+    unseen-same no_blocks = refl
+    unseen-same (block b bs) = rw (block-unseen b, unseen-same bs) refl
+
+    items-same : (items : Items) → items_unseen (changed_items change items) ≡ items_unseen items
+    items-same no_items = refl
+    items-same (item bs rest) = rw (unseen-same bs, items-same rest) refl
+
+  none-same : (xs : Inlines) → has_none (changed_inlines change xs) ≡ has_none xs
+  none-same no_inlines = refl
+  none-same (inline x xs) = refl
+
+  cells-lead : (cells : List Inlines) → cells_lead (changed_cells change cells) ≡ cells_lead cells
+  cells-lead [] = refl
+  cells-lead (c ∷ cells) = rw (heading-same c, none-same c, cells-lead cells, cells-anchorless cells) refl
+
+  mutual
+    block-leads-same : (b : Block) → block_leads (changed_block change b) ≡ block_leads b
+    block-leads-same (paragraph xs) = ap heading_keeps (behind-same xs) ∙ heading-same (behind_box xs)
+    block-leads-same (quote bs) = title-same bs
+    block-leads-same (list start is_tight items) = items-lead items
+    block-leads-same (table alignments header rows) = rw (cells-lead header, rows-anchorless rows) refl
+    block-leads-same (element name attributes bs) = rw (title-same bs) refl
+    block-leads-same b = refl
+
+    title-same : (bs : Blocks) → title_keeps (changed change bs) ≡ title_keeps bs
+    title-same no_blocks = refl
+    title-same (block b bs) =
+        rw (block-leads-same b, block-unseen b, title-same bs, anchorless-same bs) refl
+
+    items-lead : (items : Items) → items_lead (changed_items change items) ≡ items_lead items
+    items-lead no_items = refl
+    items-lead (item bs rest) = rw (title-same bs, unseen-same bs, items-lead rest, items-anchorless rest) refl
+
+  -- ---- elements of a kind
+
+  neat-element : (name : BlockElement) (attributes : List BlockAttribute) (bs : Blocks)
+      → is_neat_element name attributes (changed change bs) ≡ is_neat_element name attributes bs
+  neat-element an.Terms attributes bs = ap (λ b. has_neat_attributes an.Terms attributes && b) (some-filled bs)
+  neat-element an.Figure attributes bs = ap (λ b. has_neat_attributes an.Figure attributes && b) (some-caption bs)
+  neat-element an.Table attributes bs =
+      ap (λ b. has_neat_attributes an.Table attributes && b) (neat-table change attributes bs)
+  neat-element an.Summary attributes bs = ap (λ b. has_neat_attributes an.Summary attributes && b) (title-same bs)
+  neat-element an.Term attributes bs = ap (λ b. has_neat_attributes an.Term attributes && b) (title-same bs)
+  neat-element an.FigureCaption attributes bs =
+      ap (λ b. has_neat_attributes an.FigureCaption attributes && b) (title-same bs)
+  neat-element an.Caption attributes bs = ap (λ b. has_neat_attributes an.Caption attributes && b) (title-same bs)
+  neat-element name attributes bs = refl
 
   -- ---- lists
 
@@ -319,7 +376,9 @@ row-leaves (r ∷ rows) = rw (cell-leaves r, row-leaves rows) refl
 mutual
   block-leaves : (b : Block) → is_block_of neat (changed_block encoded_address b) ≡ is_block_of (encoding neat) b
   block-leaves (paragraph xs) = whole-leaves xs
-  block-leaves (heading n xs) = whole-leaves xs
+  block-leaves (heading n xs) =
+      ap (λ b. b && heading_keeps (line xs)) (whole-leaves xs)
+      ∙ ap (λ b. is_whole_line_of (encoding neat) xs && b) (heading-same encoded_address xs)
   block-leaves (code_block language s) = refl
   block-leaves (quote bs) = leaves-encoded bs
   block-leaves thematic_break = refl
@@ -383,7 +442,8 @@ rows-stay (r ∷ rows) h =
 mutual
   block-stays : (b : Block) → is_block_of neat b ≡ true → changed_block encoded_address b ≡ b
   block-stays (paragraph xs) h = ap paragraph (whole-stays xs h)
-  block-stays (heading n xs) h = ap (heading n) (whole-stays xs h)
+  block-stays (heading n xs) h =
+      ap (heading n) (whole-stays xs (and_parts (is_whole_line_of neat xs) (heading_keeps xs) h).0)
   block-stays (code_block language s) h = refl
   block-stays (quote bs) h = ap quote (neat-stays bs h)
   block-stays thematic_break h = refl

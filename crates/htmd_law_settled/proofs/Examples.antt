@@ -1,5 +1,5 @@
 -- What is neat, and what isn't.
-use Rattle.std.proofs.Common.{◌≡◌, true, false, [], ◌∷◌, ◌++◌, refl, Some, None}
+use Rattle.std.proofs.Common.{◌≡◌, true, false, List, [], ◌∷◌, ◌++◌, refl, Some, None}
 use Rattle.std.specs.Fmt.{digits}
 use Rattle.std.specs.Prelude.{codes, ℕ, zero, suc}
 use Rattle.std.specs.Str.{chars, is_utf8}
@@ -11,10 +11,14 @@ use Rattle.htmd_document.specs.declared.document.BlockElement.TheVariants as nam
 use Rattle.htmd_document.specs.Documents.{text, code, formatted, image, line_break, Inlines, no_inlines, inline}
 use Rattle.htmd_document.specs.Documents.{paragraph, Blocks, no_blocks, block, list, Items, no_items, item, table}
 use Rattle.htmd_document.specs.Documents.{element}
+use Rattle.htmd_flow.specs.TableElements.{rows_within}
+use Rattle.htmd_shown.specs.Attributes.{row_span}
+use Rattle.htmd_law_rendering.specs.RenderedTrees.{pairs_of_element}
 use Rattle.htmd_law_returning.specs.SettledDocuments.{numbers_fit}
 use Rattle.htmd_law_returning.specs.WholeLines.{is_whole}
 use Rattle.htmd_law_settled.specs.BareBreaks.{has_bare_breaks}
 use Rattle.htmd_law_settled.specs.Leaves.{are_blocks_of}
+use Rattle.htmd_law_settled.specs.CommonDocuments.{is_common_element}
 use Rattle.htmd_law_settled.specs.NeatLeaves.{neat, is_neat_code, has_neat_attributes, is_neat_element}
 use lib.Utf8.{encode}
 
@@ -206,11 +210,70 @@ with_a_border : is_neat_element name.Table (record { name = attribute.Border; va
     (a_row (block (element name.Cell [] a_paragraph) no_blocks)) ≡ true
 with_a_border = refl
 
--- a row in which nothing stands, and one whose cell takes two rows
+-- a row in which nothing stands
 an_empty_row : is_neat_element name.Table [] (a_row (block (element name.HeaderCell [] no_blocks)
     (block (element name.Cell [] no_blocks) no_blocks))) ≡ false
 an_empty_row = refl
 
-of_two_rows : is_neat_element name.Table [] (a_row (block
-    (element name.Cell (record { name = attribute.RowSpan; value = codes "2" } ∷ []) no_blocks) no_blocks)) ≡ true
+-- ---- captions of tables
+
+abbrev caption_before : Blocks → Blocks → Blocks
+caption_before content rest = block (element name.Caption [] content) rest
+
+abbrev one_cell : Blocks
+one_cell = a_row (block (element name.Cell [] a_paragraph) no_blocks)
+
+-- where there is a caption, a table of one cell isn't for layout, nor is one of a header of GitHub's form
+captioned : is_neat_element name.Table [] (caption_before a_paragraph one_cell) ≡ true
+captioned = refl
+
+a_captioned_header : is_neat_element name.Table [] (caption_before a_paragraph (a_row (header_of no_blocks))) ≡ true
+a_captioned_header = refl
+
+-- an empty caption
+an_empty_caption : is_neat_element name.Table [] (caption_before no_blocks one_cell) ≡ false
+an_empty_caption = refl
+
+-- ---- cells of several rows
+
+abbrev rows : List ℕ → List BlockAttribute
+rows count = record { name = attribute.RowSpan; value = count } ∷ []
+
+-- a cell takes one row before a caption, or two, of which one is behind it
+before_a_caption : is_common_element name.Table [] (block (element name.Row [] (block (element name.Cell []
+    a_paragraph) no_blocks)) (caption_before a_paragraph one_cell)) ≡ true
+unfolding chars encode digits
+before_a_caption = refl
+
+past_a_caption : is_common_element name.Table [] (block (element name.Row [] (block (element name.Cell
+    (rows (codes "2")) a_paragraph) no_blocks)) (caption_before a_paragraph one_cell)) ≡ false
+unfolding chars encode digits
+past_a_caption = refl
+
+-- a cell takes the row below its own, which is empty; and one row more than there are
+abbrev tall : List ℕ → Blocks → Blocks
+tall count more = block (element name.Row [] (block (element name.HeaderCell (rows count) a_paragraph) no_blocks)) more
+
+of_two_rows : is_neat_element name.Table [] (tall (codes "2") (a_row no_blocks)) ≡ true
+unfolding chars encode digits
 of_two_rows = refl
+
+past_the_end : is_neat_element name.Table [] (tall (codes "3") (a_row no_blocks)) ≡ false
+unfolding chars encode digits
+past_the_end = refl
+
+-- by rowspan=0 a cell takes all rows of its part, and HTML has no other way to say more than 65,534
+all_of_them : rows_within 65535 0 ≡ 65535
+all_of_them = refl
+
+the_most_rows : is_common_element name.Cell (rows (codes "65534")) a_paragraph ≡ true
+unfolding chars encode digits
+the_most_rows = refl
+
+too_many_rows : is_common_element name.Cell (rows (codes "65535")) a_paragraph ≡ false
+unfolding chars encode digits
+too_many_rows = refl
+
+too_many_are_fewer : row_span (pairs_of_element (rows (codes "65535"))) ≡ 65534
+unfolding chars encode digits
+too_many_are_fewer = refl

@@ -17,7 +17,8 @@ use Rattle.htmd_flow.specs.Contexts.{Context, has_elements}
 use Rattle.htmd_flow.specs.Flows.{Node, blocks_of, flow_all, flow_after, list_parts, is_item, goes_on, items_in_a_row}
 use Rattle.htmd_flow.specs.Flows.{element_part, around_node, blocks_within, is_title_of, title_element, as_title}
 use Rattle.htmd_flow.specs.Flows.{titled, shows_title}
-use Rattle.htmd_flow.specs.Paragraphs.{Writing, begun, open_paragraph, ended, parted, broken_off, spaced_out, after_leaf}
+use Rattle.htmd_flow.specs.Paragraphs.{Writing, begun, open_paragraph, ended, parted, broken_off, spaced_out}
+use Rattle.htmd_flow.specs.Paragraphs.{after_leaf}
 use Rattle.htmd_flow.specs.Paragraphs.{is_task_here, with_task, boxed, tasked, is_boxed_item}
 use Rattle.htmd_flow.specs.Paragraphs.{after_character, fed, fed_all}
 use Rattle.htmd_flow.specs.declared.paragraphs.Met.TheVariants as met
@@ -29,6 +30,7 @@ use Rattle.htmd_law_returning.specs.SettledDocuments.{is_of_figure, has_caption}
 use Rattle.htmd_law_settled.specs.Leaves.{Leaves}
 use Rattle.htmd_law_settled.proofs.LeafNodes.{HasNode, AllNodes}
 use Rattle.htmd_law_settled.proofs.LeafTitles.{caption-alone}
+use Rattle.htmd_law_settled.proofs.ShownHeaders.{of-figure}
 
 -- ---- what is written stays
 
@@ -177,7 +179,7 @@ module _ (k : Leaves) where
       let both = and_parts c.is_rich (not c.is_flat) e in
       let sits : Sits false (around_node n.tree c) =
       sits-around n.tree c (record { rich = both.0; line = not-true c.is_flat both.1 }) in
-      part-captions (blocks_within n c) (h.filled t (around_node n.tree c) sits.rich sits.line ∙ s)
+      part-captions (blocks_within n c) (h.filled (of-figure n.tree t) (around_node n.tree c) sits.rich sits.line ∙ s)
 
   -- it shows, or one behind it
   titled-captions : (n : Node) (nodes : List Node) → HasNode k n

@@ -18,7 +18,7 @@ use Rattle.htmd_law_returning.specs.SettledDocuments.{items_have_bare_headers}
 use Rattle.htmd_law_settled.specs.Leaves.{Leaves}
 use Rattle.htmd_law_settled.specs.NeatLeaves.{HeadersShow}
 use Rattle.htmd_law_settled.proofs.LeafLines.{AllCharacters, HasBlock, HasPiece, HaveInside, HaveItems}
-use Rattle.htmd_law_settled.specs.StandingElements.{Holder, in_flow, in_details, in_figure, inside}
+use Rattle.htmd_law_returning.specs.ElementPlaces.{Holder, in_flow, in_details, in_figure, inside}
 use Rattle.htmd_law_settled.proofs.LeafElements.{HasTitle, HasElement, HasLines, HasImage, HasTree, HaveTrees}
 use Rattle.htmd_law_settled.proofs.NeatPages.{leaves, trees-neat, document-has}
 
@@ -31,6 +31,7 @@ headed = record {
   image = λ address title description. true;
   code = λ language s. true;
   line = λ xs. true;
+  heading = λ xs. true;
   list = λ is_tight items. true;
   table = λ header rows. shows_header header;
   element = λ name attributes content. true;
@@ -75,10 +76,14 @@ mutual
     record {
       lines = lines-headed (lines_of (with_line_feeds (all_text_among content))) h.1.lines;
       block = λ near e. refl;
+      blank = h.1.blank;
     },
     trees-headed content h.2,
     h.3,
     h.4,
+    λ e c f. refl,
+    h.6,
+    h.7,
   )
 
   trees-headed : (ts : Simples) → HaveTrees leaves ts → HaveTrees headed ts

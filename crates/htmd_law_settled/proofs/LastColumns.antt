@@ -1,5 +1,5 @@
 -- A page's table has no column at its end in which nothing shows.
-use Rattle.std.proofs.Common.{◌≡◌, ℕ, ◌+◌, ◌-◌, ◌≤◌, ◌==◌, max, Bool, true, false, ◌||◌, cond}
+use Rattle.std.proofs.Common.{◌≡◌, ℕ, ◌-◌, ◌≤◌, ◌==◌, max, Bool, true, false, ◌||◌, cond}
 use Rattle.std.proofs.Common.{List, [], ◌∷◌, ◌++◌, length, map, drop, replicate, fold, get_or, refl, sym, ap, ◌∙◌}
 use Rattle.std.proofs.Common.{arith, nat_lt}
 use Rattle.std.specs.List.{list_any}

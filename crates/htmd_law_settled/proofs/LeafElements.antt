@@ -7,7 +7,7 @@ use Rattle.std.proofs.lemmas.Bool.{false≢true}
 use Rattle.htmd_lexical.specs.AttributePairs.{AttributePair}
 use Rattle.htmd_lexical.specs.Characters.{space}
 use Rattle.htmd_document.specs.Documents.{Inlines, no_inlines, inline, Blocks, no_blocks, block, code_block}
-use Rattle.htmd_document.specs.Formats.{Format, Abbreviation, of_format, of_element}
+use Rattle.htmd_document.specs.Formats.{Abbreviation, of_format, of_element}
 use Rattle.htmd_document.specs.declared.document.Format as declared_format
 use Rattle.htmd_shown.specs.declared.facts.Facts.{Facts}
 use Rattle.htmd_shown.specs.declared.role.Role.{Role}
@@ -17,10 +17,10 @@ use Rattle.htmd_shown.specs.Attributes.{has_attribute, text_of, title_of, descri
 use Rattle.htmd_shown.specs.Attributes.{is_any_case, is_filled}
 use Rattle.htmd_shown.specs.Kinds.{has}
 use Rattle.htmd_shown.specs.Roles as roles
-use Rattle.htmd_shown.specs.Showings.{show, show_usual_sign}
+use Rattle.htmd_shown.specs.Showings.{code_shows, show, show_usual_sign}
 use Rattle.htmd_shown.specs.SimpleTrees.{Simple, text, image, formula, embedded, anchor, element, Simples, none, more}
 use Rattle.htmd_shown.specs.Spaces.{is_blank_text}
-use Rattle.htmd_flow.specs.Contexts.{Context, has_elements, is_lined, is_link, inside_format}
+use Rattle.htmd_flow.specs.Contexts.{Context, has_elements, is_lined, inside_format}
 use Rattle.htmd_flow.specs.Contexts.{inside_title, inside_link, in_code, unlinked, is_linked_to_part}
 use Rattle.htmd_flow.specs.Contexts.{beside_code, in_one_line, deeper, run_in, apart}
 use Rattle.htmd_flow.specs.Flows.{Node, Row, TermPart, gap, of_node, Element, flow_all, blocks_of, line_of, image_parts}
@@ -33,6 +33,7 @@ use Rattle.htmd_flow.specs.Flows.{around_title, rich_table_at, term_parts, table
 use Rattle.htmd_flow.specs.Flows.{described_parts, no_part, part_of, leads_to, row_with}
 use Rattle.htmd_flow.specs.Flows.{node_of, nodes_of, nodes_below, terms_of, rows_among, rows_at, pieces_of, pieces_at}
 use Rattle.htmd_flow.specs.Flows.{TablePiece, of_caption, of_row, captioned, element_part, open_attribute, titled}
+use Rattle.htmd_flow.specs.Flows.{content_shows}
 use Rattle.htmd_document.specs.declared.document.BlockElement.TheVariants as name
 use Rattle.htmd_flow.specs.declared.table_form.TablePart.{TablePart}
 use Rattle.htmd_flow.specs.Terms.{is_group}
@@ -40,16 +41,23 @@ use Rattle.htmd_flow.specs.Languages.{language_of_block}
 use Rattle.htmd_flow.specs.Levels.{list_of}
 use Rattle.htmd_flow.specs.Parts.{Around, Part, place, box, edge, whole}
 use Rattle.htmd_law_settled.specs.Leaves.{Leaves}
+use Rattle.htmd_law_settled.proofs.OrderedLeaves.{GivesOrder}
+use Rattle.htmd_law_settled.proofs.OrderedTerms.{TermsInOrder}
 use Rattle.htmd_law_settled.proofs.LeafLines.{AllCharacters, HaveBlocks, HasWhole, AllAround, AllParts}
 use Rattle.htmd_law_settled.proofs.LeafLines.{parts-blocks, parts-line}
 use Rattle.htmd_law_settled.proofs.LeafNodes.{parts-append, either-parts, apart-has, Gives, HasNode, AllNodes}
 use Rattle.htmd_law_settled.proofs.LeafNodes.{deeper-fits, line-fits, list-parts-have, flow-has, AllTerms, terms-have}
 use Rattle.htmd_law_settled.proofs.LeafNodes.{AllRows, space-has, table-has}
-use Rattle.htmd_law_settled.proofs.ShownHeaders.{FillsCells, FillsBlocks}
+use Rattle.htmd_law_settled.proofs.ShownHeaders.{FillsCells, FillsBlocks, is_any_caption, of-table}
 use Rattle.htmd_law_settled.proofs.LeafContexts.{either-fits, format-fits, link-fits, unlinked-fits, code-fits}
 use Rattle.htmd_law_settled.proofs.LeafContexts.{beside-fits}
 use Rattle.htmd_law_settled.proofs.LeafRich.{richly, details-has, figure-has, described-has, AllPieces, rich-table-has}
+use Rattle.htmd_law_settled.proofs.LeafTitles.{table-title}
 use lib.Utf8.{encode}
+
+abbrev pub is_list_of_terms : Role → Bool
+is_list_of_terms role.Terms = true
+is_list_of_terms r = false
 
 module _ (k : Leaves) where
   -- ---- trees
@@ -80,10 +88,15 @@ module _ (k : Leaves) where
         → is_blank_text (with_line_feeds (all_text_among content)) ≡ false
         → k.code (language_of_block attributes (list_of content) near)
         (without_last_line_feed (with_line_feeds (all_text_among content))) ≡ true
+    pub blank : code_shows content ≡ false → is_blank_text (with_line_feeds (all_text_among content)) ≡ true
 
   abbrev pub HasImage : Option (List ℕ) → List AttributePair → Type 0
   HasImage None attributes = AllCharacters k (chars (description_of attributes))
   HasImage (Some s) attributes = k.image (address s) (title_of attributes) (description_of attributes) ≡ true
+
+  -- what is in it as the line of a heading
+  abbrev pub HeadsLine : (Context → List Part) → Type 0
+  HeadsLine parts = (c : Context) → c.is_flat ≡ true → k.heading (line_of (parts c)) ≡ true
 
   abbrev mutual
     pub HasTree : Simple → Type 0
@@ -97,7 +110,10 @@ module _ (k : Leaves) where
     HasTree (element id r facts attributes content) =
         HasRole r attributes × HasCode attributes content × HaveTrees content
         × FillsCells (show false content) (flow_all (nodes_of content))
-        × (roles.is_figure_caption r ≡ true → FillsBlocks (show false content) (flow_all (nodes_of content)))
+        × (is_any_caption r ≡ true → FillsBlocks (show false content) (flow_all (nodes_of content)))
+        × (roles.is_heading r ≡ true → HeadsLine (flow_all (nodes_of content)))
+        × (roles.is_title r ≡ true → GivesOrder (flow_all (nodes_of content)))
+        × (is_list_of_terms r ≡ true → TermsInOrder (terms_of content))
 
     pub HaveTrees : Simples → Type 0
     HaveTrees none = Unit {0}
@@ -166,13 +182,14 @@ module _ (k : Leaves) where
 
     -- ---- blocks
 
-    heading-has : (at level : ℕ) (xs : Inlines) → HasWhole k xs → AllParts k at (heading_of level xs)
-    heading-has at level no_inlines h = tt
-    heading-has at level (inline x xs) h = (h, tt)
+    heading-has : (at level : ℕ) (xs : Inlines) → HasWhole k xs → k.heading xs ≡ true
+        → AllParts k at (heading_of level xs)
+    heading-has at level no_inlines h g = tt
+    heading-has at level (inline x xs) h g = ((h, g), tt)
 
     heading-parts-have : (level : ℕ) (facts : Facts) (nodes : List Node) → AllNodes k nodes
-        → Gives k (heading_parts level facts nodes)
-    heading-parts-have level facts nodes h at c f =
+        → HeadsLine (flow_all nodes) → Gives k (heading_parts level facts nodes)
+    heading-parts-have level facts nodes h g at c f =
         let d : Context = around_heading facts c in
         let fits =
         either-fits k at (facts.shows_sign && is_linked_to_part c) (unlinked c) c (unlinked-fits k at c f) f in
@@ -180,7 +197,7 @@ module _ (k : Leaves) where
         apart-has k at (if c.is_flat then flow_all nodes c else heading_of level xs)
         (either-parts k at c.is_flat (flow_all nodes c) (heading_of level xs) (flow-has k spaces nodes h at c f)
         (heading-has at level xs (parts-line k spaces at (flow_all nodes (in_one_line d))
-        (flow-has k spaces nodes h at (in_one_line d) (line-fits k at d fits)))))
+        (flow-has k spaces nodes h at (in_one_line d) (line-fits k at d fits))) (g (in_one_line d) refl)))
 
     quote-has : (at : ℕ) (bs : Blocks) → HaveBlocks k (suc at) bs → AllParts k at (quote_of bs)
     quote-has at no_blocks h = tt
@@ -249,63 +266,65 @@ module _ (k : Leaves) where
           apart-has k at (flow_all e.nodes (around_title e.content c))
           (here at (around_title e.content c) (either-fits k at b (unlinked c) c (unlinked-fits k at c f) f))
 
-      pub element-has : (r : Role) → HasRole r e.attributes → Gives k (parts_of r e)
-      element-has (role.Format g) t at c f =
+      pub element-has : (r : Role) → HasRole r e.attributes
+          → (roles.is_heading r ≡ true → HeadsLine (flow_all e.nodes))
+          → (is_list_of_terms r ≡ true → TermsInOrder e.terms) → Gives k (parts_of r e)
+      element-has (role.Format g) t l o at c f =
           here at (inside_format (of_format g) c) (format-fits k at (of_format g) c (formats g) f)
-      element-has (role.Element g) t at c f =
+      element-has (role.Element g) t l o at c f =
           here at (inside_format (of_element g) c) (format-fits k at (of_element g) c t.element f)
-      element-has role.Abbreviation t at c f = title-around (title_of e.attributes) (t.title refl) at c f
-      element-has role.Code t at c f = here at (in_code c) (code-fits k at c f)
-      element-has role.Typed t at c f = here at (in_code c) (code-fits k at c f)
-      element-has role.Link t at c f =
+      element-has role.Abbreviation t l o at c f = title-around (title_of e.attributes) (t.title refl) at c f
+      element-has role.Code t l o at c f = here at (in_code c) (code-fits k at c f)
+      element-has role.Typed t l o at c f = here at (in_code c) (code-fits k at c f)
+      element-has role.Link t l o at c f =
           here at (linked_by e.id e.attributes c)
           (link-fits k at e.id (address (text_of (codes "href") e.attributes)) (title_of e.attributes) c (t.link refl)
           f)
-      element-has role.Unlinked t at c f = here at (unlinked c) (unlinked-fits k at c f)
-      element-has role.Target t at c f = here at c f
-      element-has role.Plain t at c f = here at c f
-      element-has role.Apart t at c f = between-has e.nodes all at c f
-      element-has role.LineBreak t at c f = (tt, tt)
-      element-has role.Input t at c f =
+      element-has role.Unlinked t l o at c f = here at (unlinked c) (unlinked-fits k at c f)
+      element-has role.Target t l o at c f = here at c f
+      element-has role.Plain t l o at c f = here at c f
+      element-has role.Apart t l o at c f = between-has e.nodes all at c f
+      element-has role.LineBreak t l o at c f = (tt, tt)
+      element-has role.Input t l o at c f =
           parts-append k at (box_parts e.attributes) (flow_all e.nodes c) (box-has at e.attributes) (here at c f)
-      element-has role.Anchors t at c f =
+      element-has role.Anchors t l o at c f =
           either-parts k at c.is_flat (flow_all e.nodes c) (apart (flow_all e.nodes c)) (here at c f) (blocks at c f)
-      element-has (role.Heading level) t at c f = heading-parts-have level e.facts e.nodes all at c f
-      element-has role.Preformatted t at c f = verbatim-has e.attributes e.content coded at c f
-      element-has role.Verbatim t at c f = verbatim-has e.attributes e.content coded at c f
-      element-has role.BlockQuote t at c f = quote-parts-have e.nodes all at c f
-      element-has role.ThematicBreak t at c f = (tt, tt)
-      element-has role.BulletList t at c f = list-parts-have k spaces None e.nodes all at c f
-      element-has role.NumberedList t at c f =
+      element-has (role.Heading level) t l o at c f = heading-parts-have level e.facts e.nodes all (l refl) at c f
+      element-has role.Preformatted t l o at c f = verbatim-has e.attributes e.content coded at c f
+      element-has role.Verbatim t l o at c f = verbatim-has e.attributes e.content coded at c f
+      element-has role.BlockQuote t l o at c f = quote-parts-have e.nodes all at c f
+      element-has role.ThematicBreak t l o at c f = (tt, tt)
+      element-has role.BulletList t l o at c f = list-parts-have k spaces None e.nodes all at c f
+      element-has role.NumberedList t l o at c f =
           list-parts-have k spaces (Some (start_of e.attributes)) e.nodes all at c f
-      element-has role.Terms t at c f =
+      element-has role.Terms t l o at c f =
           richly k spaces at c f (described_parts e.terms c) (term_parts e.terms e.nodes c)
-          (λ rich some. described-has k spaces rich e.terms terms at c f)
+          (λ rich some. described-has k spaces rich e.terms terms (o refl) at c f some)
           (λ plain. terms-have k spaces e.terms e.nodes terms all at c f)
-      element-has role.Table t at c f =
+      element-has role.Table t l o at c f =
           richly k spaces at c f (rich_table_at e c) (table_parts (list_of e.content) e.nodes e.rows c)
           (λ rich some.
           rich-table-has k spaces rich (list_of e.content) e.attributes e.pieces e.nodes pieces all at c f some)
           (λ plain. table-has k spaces (list_of e.content) e.nodes e.rows all table at c f plain)
-      element-has role.Division t at c f = near at c f
-      element-has role.Figure t at c f =
+      element-has role.Division t l o at c f = near at c f
+      element-has role.Figure t l o at c f =
           let d : Context = beside_code e.facts.pres e.attributes c in
           let fits = beside-fits k at e.facts.pres e.attributes c f in
           apart-has k at (if has_elements d then captioned e.nodes d else flow_all e.nodes d)
           (richly k spaces at d fits (captioned e.nodes d) (flow_all e.nodes d)
           (λ rich some. figure-has k spaces rich e.nodes all at d fits some) (λ plain. here at d fits))
-      element-has role.Details t at c f =
+      element-has role.Details t l o at c f =
           let inner : List Part =
           element_part name.Details (open_attribute e.attributes) (blocks_of false (titled name.Summary e.nodes c)) in
           apart-has k at (if has_elements c then inner else flow_all e.nodes c)
           (richly k spaces at c f inner (flow_all e.nodes c)
           (λ rich some. details-has k spaces rich e.attributes e.nodes all at c f some) (λ plain. here at c f))
-      element-has role.Term t at c f = titles at c f
-      element-has role.Caption t at c f = titles at c f
-      element-has role.FigureCaption t at c f = titles at c f
-      element-has role.Summary t at c f = titles at c f
-      element-has role.Cell t at c f = near at c f
-      element-has r t at c f = blocks at c f
+      element-has role.Term t l o at c f = titles at c f
+      element-has role.Caption t l o at c f = titles at c f
+      element-has role.FigureCaption t l o at c f = titles at c f
+      element-has role.Summary t l o at c f = titles at c f
+      element-has role.Cell t l o at c f = near at c f
+      element-has r t l o at c f = blocks at c f
 
     -- ---- nodes of trees
 
@@ -352,10 +371,12 @@ module _ (k : Leaves) where
     rows-pieces [] h = tt
     rows-pieces (r ∷ rows) h = (h.0, rows-pieces rows h.1)
 
-    either-pieces : (b : Bool) (n : Node) (rows : List Row) → HasNode k n → AllRows k spaces rows
+    either-pieces : (b : Bool) (n : Node) (rows : List Row) → HasNode k n
+        → (b ≡ true → FillsBlocks (content_shows n.tree) n.content)
+        → (b ≡ true → has roles.is_title n.tree ≡ true) → AllRows k spaces rows
         → AllPieces k (if b then of_caption n ∷ [] else map of_row rows)
-    either-pieces true n rows g h = (g, tt)
-    either-pieces false n rows g h = rows-pieces rows h
+    either-pieces true n rows g f t h = ((g, f refl, t refl), tt)
+    either-pieces false n rows g f t h = rows-pieces rows h
 
     unshown : {A : Type 0} → false ≡ true → A
     unshown e = absurd (false≢true e)
@@ -364,27 +385,40 @@ module _ (k : Leaves) where
       unfolding node_of
 
       node-has : (t : Simple) → HasTree t → HasNode k (node_of t)
-      node-has (text s) h = record { whole = run-has s h; content = λ at c f. tt; shown = unshown; filled = unshown }
+      node-has (text s) h =
+          record {
+            whole = run-has s h;
+            content = λ at c f. tt;
+            shown = unshown;
+            filled = unshown;
+            ordered = unshown;
+          }
       node-has (image o attributes) h =
-          record { whole = image-has o attributes h; content = λ at c f. tt; shown = unshown; filled = unshown }
+          record {
+            whole = image-has o attributes h;
+            content = λ at c f. tt;
+            shown = unshown;
+            filled = unshown;
+            ordered = unshown;
+          }
       node-has (formula tex is_alone attributes) h =
           record {
             whole = formula-has tex is_alone h.0 h.1;
             content = λ at c f. tt;
             shown = unshown;
-            filled =
-                unshown;
+            filled = unshown;
+            ordered = unshown;
           }
       node-has (embedded id s title attributes ids) h =
           record {
             whole = embed-has id s title ids h.0 h.1;
             content = λ at c f. tt;
             shown = unshown;
-            filled =
-                unshown;
+            filled = unshown;
+            ordered = unshown;
           }
       node-has (anchor id) h = record
-          { whole = λ at c f. (tt, tt); content = λ at c f. tt; shown = unshown; filled = unshown }
+          { whole = λ at c f. (tt, tt); content = λ at c f. tt; shown = unshown; filled = unshown; ordered = unshown }
       node-has (element id r facts attributes content) h = record {
         whole = element-has (record {
           id = id;
@@ -396,10 +430,11 @@ module _ (k : Leaves) where
           pieces = pieces_of content;
           terms = terms_of content;
         }) h.1 (nodes-have content h.2) (rows-have no_part content h.2) (pieces-have content h.2)
-            (child-terms content h.2) r h.0;
+            (child-terms content h.2) r h.0 h.5 h.7;
         content = flow-has k spaces (nodes_of content) (nodes-have content h.2);
         shown = h.3;
         filled = h.4;
+        ordered = h.6;
       }
 
       pub nodes-have : (ts : Simples) → HaveTrees ts → AllNodes k (nodes_of ts)
@@ -426,6 +461,7 @@ module _ (k : Leaves) where
       pieces-have (more t ts) h =
           pieces-append (pieces_at (node_of t) (rows_at no_part t)) (pieces_of ts)
           (either-pieces (has roles.is_caption (node_of t).tree) (node_of t) (rows_at no_part t) (node-has t h.0)
+          (λ e. (node-has t h.0).filled (of-table (node_of t).tree e)) (table-title (node_of t).tree)
           (row-have no_part t h.0)) (pieces-have ts h.1)
 
       rows-have : (p : TablePart) (ts : Simples) → HaveTrees ts → AllRows k spaces (rows_among p ts)

@@ -15,7 +15,7 @@ use Rattle.htmd_law_settled.specs.Leaves.{Leaves, is_text_of, is_inline_of, is_l
 use Rattle.htmd_law_settled.specs.Leaves.{is_block_of}
 use Rattle.htmd_law_settled.specs.Leaves.{are_blocks_of, are_items_of}
 use Rattle.htmd_law_settled.proofs.LeafLines.{AllCharacters, IsText, HasInline, HasLine, HasWhole, HaveCells, HaveRows}
-use Rattle.htmd_law_settled.specs.StandingElements.{Holder, in_flow, in_details, in_figure, inside}
+use Rattle.htmd_law_returning.specs.ElementPlaces.{Holder, in_flow, in_details, in_figure, inside}
 use Rattle.htmd_law_settled.proofs.LeafLines.{HasBlock}
 use Rattle.htmd_law_settled.proofs.LeafLines.{HasPiece, HaveInside}
 use Rattle.htmd_document.specs.NormalDocuments.{item_count}
@@ -76,7 +76,8 @@ module _ (k : Leaves) (wholes : (xs : Inlines) → Whole xs → k.line xs ≡ tr
   mutual
     block-holds : (n : ℕ) (b : Block) → HasBlock k n b → is_block_of k b ≡ true
     block-holds n (paragraph content) h = whole-holds content h
-    block-holds n (heading level content) h = whole-holds content h
+    block-holds n (heading level content) h =
+        and_from (is_whole_line_of k content) (k.heading content) (whole-holds content h.0) h.1
     block-holds n (code_block language s) h = h
     block-holds n (quote content) h = inside-holds in_flow (suc n) content h
     block-holds n thematic_break h = refl

@@ -15,7 +15,6 @@ use Rattle.htmd_document.specs.Documents.{Inlines, no_inlines, inline, Block, pa
 use Rattle.htmd_document.specs.Documents.{thematic_break, list, table, element, tags, Blocks, no_blocks, block}
 use Rattle.htmd_document.specs.Documents.{Items, no_items, item, BlockAttribute}
 use Rattle.htmd_document.specs.declared.document.BlockElement.{BlockElement}
-use Rattle.htmd_document.specs.declared.document.BlockElement.TheVariants as name
 use Rattle.htmd_lexical.specs.Attributes.{attribute_names}
 use Rattle.htmd_lexical.specs.CharacterClasses.{are_distinct}
 use Rattle.htmd_flow.specs.Nesting.{wrapped, wrapped_by, one_inline, text_or_code, met, joined, with_content, in_last}
@@ -38,9 +37,8 @@ use Rattle.htmd_document.specs.NormalDocuments.{item_count}
 use Rattle.htmd_law_rendering.specs.RenderedTrees.{pairs_of_element}
 use Rattle.htmd_law_returning.specs.SettledDocuments.{is_right_list, has_fitting_numbers}
 use Rattle.htmd_law_settled.specs.Leaves.{Leaves}
-use Rattle.htmd_law_settled.specs.NeatLeaves.{is_neat_element}
-use Rattle.htmd_law_settled.specs.StandingElements.{Holder, in_flow, in_details, in_figure}
-use Rattle.htmd_law_settled.specs.StandingElements.{inside, stands_in, is_mixed}
+use Rattle.htmd_law_settled.proofs.OrderedLeaves.{is_ordered_element}
+use Rattle.htmd_law_returning.specs.ElementPlaces.{Holder, in_flow, in_details, in_figure, inside, stands_in, is_mixed}
 use Rattle.htmd_law_settled.proofs.LineShapes.{Whole}
 use Rattle.htmd_law_settled.proofs.LinePlaces.{Along, IsLeaf, along-before, along-weaker, is_code_inline}
 use Rattle.htmd_law_settled.proofs.LineWritings.{IsWritten, character-leaf, code-inline, shown-written, line-whole}
@@ -95,7 +93,7 @@ module _ (k : Leaves) where
   -- elements that a page may have
   abbrev pub AllowsElements : Type 0
   AllowsElements = (name : BlockElement) (attributes : List BlockAttribute) (content : Blocks)
-      → is_neat_element name attributes content ≡ true → k.element name attributes content ≡ true
+      → is_ordered_element name attributes content ≡ true → k.element name attributes content ≡ true
 
   -- ---- documents
 
@@ -138,7 +136,7 @@ module _ (k : Leaves) where
     -- in so many lists and quotes
     pub HasBlock : ℕ → Block → Type 0
     HasBlock n (paragraph content) = HasWhole content
-    HasBlock n (heading level content) = HasWhole content
+    HasBlock n (heading level content) = HasWhole content × (k.heading content ≡ true)
     HasBlock n (code_block language s) = k.code language s ≡ true
     HasBlock n (quote content) = HaveInside in_flow (suc n) content
     HasBlock n thematic_break = Unit {0}

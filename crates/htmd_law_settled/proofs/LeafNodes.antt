@@ -29,7 +29,7 @@ use Rattle.htmd_flow.specs.Lists.{ListItem, are_filled, list_of, numbered, start
 use Rattle.htmd_flow.specs.Lists.{from_one, greatest_in, is_close, is_lone, is_tight, holds_paragraph}
 use Rattle.htmd_flow.specs.Lists.{new_number, with_item, lists_of, lists_if_filled}
 use Rattle.htmd_flow.specs.Paragraphs.{Writing, begun}
-use Rattle.htmd_flow.specs.Parts.{Part, run, edge, whole}
+use Rattle.htmd_flow.specs.Parts.{Part, run, edge}
 use Rattle.htmd_shown.specs.Kinds.{has}
 use Rattle.htmd_shown.specs.Roles as roles
 use Rattle.htmd_shown.specs.SimpleTrees.{Simple}
@@ -37,8 +37,9 @@ use Rattle.htmd_law_returning.specs.SettledDocuments.{is_right_list, are_tight_i
 use Rattle.htmd_law_returning.specs.SettledDocuments.{has_fitting_numbers, shows_last_column, shows_header}
 use Rattle.htmd_law_settled.specs.Leaves.{Leaves}
 use Rattle.htmd_law_settled.proofs.LastColumns.{last-shown}
-use Rattle.htmd_law_settled.proofs.ShownHeaders.{FillsCells, FillsBlocks}
+use Rattle.htmd_law_settled.proofs.ShownHeaders.{FillsCells, FillsBlocks, is_any_caption}
 use Rattle.htmd_law_settled.proofs.LeafLines.{AllCharacters, HasWhole, nothing-whole, HaveCells, HaveRows, HasBlock}
+use Rattle.htmd_law_settled.proofs.OrderedLeaves.{GivesOrder}
 use Rattle.htmd_law_settled.proofs.LeafLines.{HaveBlocks, HaveItems, AllowsElements}
 use Rattle.htmd_law_settled.proofs.LeafLines.{AllAround, AllParts, HasWriting, begun-has, all-fed, writing-blocks}
 use Rattle.htmd_law_settled.proofs.LeafLines.{parts-blocks, parts-line}
@@ -82,7 +83,8 @@ module _ (k : Leaves) where
     pub whole : Gives n.whole
     pub content : Gives n.content
     pub shown : FillsCells (content_shows n.tree) n.content
-    pub filled : has roles.is_figure_caption n.tree ≡ true → FillsBlocks (content_shows n.tree) n.content
+    pub filled : has is_any_caption n.tree ≡ true → FillsBlocks (content_shows n.tree) n.content
+    pub ordered : has roles.is_title n.tree ≡ true → GivesOrder n.content
 
   abbrev pub AllNodes : List Node → Type 0
   AllNodes [] = Unit {0}

@@ -23,6 +23,7 @@ use Rattle.htmd_shown.specs.Showings.{shows, show_usual_sign}
 use Rattle.htmd_shown.specs.SimpleTrees.{Simple, Simples, element}
 use Rattle.htmd_flow.specs.Contexts.{Context, has_elements, unlinked, is_linked_to_part, apart}
 use Rattle.htmd_flow.specs.Flows.{Node, TablePiece, of_caption, of_row, TermPart, gap, of_node, blocks_of}
+use Rattle.htmd_flow.specs.Flows.{content_shows}
 use Rattle.htmd_flow.specs.Flows.{flow_all, element_part, around_title, around_node, within, blocks_within}
 use Rattle.htmd_flow.specs.Flows.{titled, open_attribute, shows_title, figure_by, captioned}
 use Rattle.htmd_flow.specs.Flows.{Description, Descriptions, no_descriptions, description_with}
@@ -37,22 +38,24 @@ use Rattle.htmd_flow.specs.Paragraphs.{begun, blocks_in}
 use Rattle.htmd_flow.specs.Parts.{Part, edge}
 use Rattle.htmd_flow.specs.TableElements as elements
 use Rattle.htmd_law_settled.proofs.LeafLines.{AllowsElements}
-use Rattle.htmd_law_settled.specs.NeatLeaves.{has_neat_attributes, is_neat_element, is_neat_cell, is_neat_table}
+use Rattle.htmd_law_settled.specs.NeatLeaves.{has_neat_attributes, is_neat_cell, is_neat_table}
+use Rattle.htmd_law_settled.proofs.OrderedLeaves.{is_ordered, is_ordered_element}
+use Rattle.htmd_law_settled.proofs.OrderedTerms.{TermsOrdered, TermsInOrder}
 use Rattle.htmd_law_settled.proofs.NeatTables.{table-neat}
 use Rattle.htmd_law_settled.proofs.CellAttributes.{IsWide, is-wide, cell-neat}
 use Rattle.htmd_law_returning.specs.SettledDocuments.{has_filled_element}
 use Rattle.htmd_law_settled.specs.Leaves.{Leaves}
 use Rattle.htmd_law_returning.specs.SettledDocuments.{shows_header}
 use Rattle.htmd_law_settled.proofs.LastColumns.{last-shown}
-use Rattle.htmd_law_settled.proofs.ShownHeaders.{FillNodes, FillPieces, header-shown, first-line}
-use Rattle.htmd_law_settled.specs.StandingElements.{in_flow, in_terms, in_table, in_row, inside, stands_in, in_details}
-use Rattle.htmd_law_settled.specs.StandingElements.{in_figure}
+use Rattle.htmd_law_settled.proofs.ShownHeaders.{FillNodes, FillPieces, FillsBlocks, header-shown, first-line}
+use Rattle.htmd_law_returning.specs.ElementPlaces.{in_flow, in_terms, in_table, in_row, inside, stands_in, in_details}
+use Rattle.htmd_law_returning.specs.ElementPlaces.{in_figure}
 use Rattle.htmd_law_settled.proofs.LeafLines.{are_different}
 use Rattle.htmd_law_settled.proofs.LeafLines.{HasWhole, nothing-whole, HaveCells, HaveRows, HaveBlocks, AllParts}
 use Rattle.htmd_law_settled.proofs.LeafLines.{IsElement, HaveInside}
 use Rattle.htmd_law_settled.proofs.LeafLines.{HasWriting, begun-has, all-fed, writing-blocks, parts-blocks}
 use Rattle.htmd_law_settled.proofs.FigureCaptions.{figure-captioned}
-use Rattle.htmd_law_settled.proofs.LeafTitles.{summaries-in, captions-in, captions-gone}
+use Rattle.htmd_law_settled.proofs.LeafTitles.{summaries-in, captions-in, captions-gone, ordered-within}
 use Rattle.htmd_law_settled.proofs.LeafLines.{parts-inside}
 use Rattle.htmd_law_settled.proofs.LeafNodes.{parts-append, apart-has, FitsIn, Gives, HasNode, AllNodes}
 use Rattle.htmd_law_settled.proofs.LeafNodes.{MayHaveTables, flow-has, AllTerms, HasOption, table-of-has, option-part}
@@ -105,7 +108,9 @@ module _ (k : Leaves) where
   -- captions and rows of a table
   abbrev pub AllPieces : List TablePiece → Type 0
   AllPieces [] = Unit {0}
-  AllPieces (of_caption n ∷ pieces) = HasNode k n × AllPieces pieces
+  AllPieces (of_caption n ∷ pieces) =
+      (HasNode k n × FillsBlocks (content_shows n.tree) n.content × (has roles.is_title n.tree ≡ true))
+      × AllPieces pieces
   AllPieces (of_row r ∷ pieces) = AllNodes k r.cells × AllPieces pieces
 
   -- a table's, once they are made
@@ -115,7 +120,8 @@ module _ (k : Leaves) where
 
   abbrev PiecesMade : ℕ → List elements.Piece → Type 0
   PiecesMade at [] = Unit {0}
-  PiecesMade at (elements.caption content ∷ pieces) = HaveBlocks k at content × PiecesMade at pieces
+  PiecesMade at (elements.caption content ∷ pieces) =
+      (HaveBlocks k at content × (is_ordered content ≡ true)) × PiecesMade at pieces
   PiecesMade at (elements.row r ∷ pieces) = CellsMade at r.cells × PiecesMade at pieces
 
   module _ (spaces : k.character space ≡ true) where
@@ -139,7 +145,7 @@ module _ (k : Leaves) where
 
     module _ (rich : AllowsElements k) where
       element-has : (at : ℕ) (n : BlockElement) (attributes : List BlockAttribute) (bs : Blocks)
-          → stands_in in_flow n ≡ true → is_neat_element n attributes bs ≡ true
+          → stands_in in_flow n ≡ true → is_ordered_element n attributes bs ≡ true
           → are_different attributes ≡ true → HaveInside k (inside n) at bs
           → AllParts k at (element_part n attributes bs)
       element-has at n attributes no_blocks e neat d h = tt
@@ -262,16 +268,17 @@ module _ (k : Leaves) where
             all-described c f parts (with_described c d n) h.1 (node-described c f d n h.0 g)
 
         description-is : (is_term : Bool) (bs : Blocks) → HaveBlocks k at bs
+            → (is_term ≡ true → is_ordered bs ≡ true)
             → IsElement k in_terms at (if is_term then name.Term else name.Meaning) [] bs
-        description-is true bs h = (rich name.Term [] bs refl, refl, refl, h)
-        description-is false bs h = (rich name.Meaning [] bs refl, refl, refl, h)
+        description-is true bs h o = (rich name.Term [] bs (o refl), refl, refl, h)
+        description-is false bs h o = (rich name.Meaning [] bs refl, refl, refl, h)
 
-        descriptions-blocks : (ds : List Description) → HaveDescriptions at ds
+        descriptions-blocks : (ds : List Description) → HaveDescriptions at ds → TermsOrdered ds
             → HaveInside k in_terms at (document.blocks_of (map description_element ds))
-        descriptions-blocks [] h = tt
-        descriptions-blocks (d ∷ ds) h = (
-          description-is d.is_term (blocks_in d.content) (writing-blocks k spaces at d.content h.0),
-          descriptions-blocks ds h.1,
+        descriptions-blocks [] h o = tt
+        descriptions-blocks (d ∷ ds) h o = (
+          description-is d.is_term (blocks_in d.content) (writing-blocks k spaces at d.content h.0) o.0,
+          descriptions-blocks ds h.1 o.1,
         )
 
       -- something stands in one of them
@@ -280,21 +287,23 @@ module _ (k : Leaves) where
       filled-terms [] = refl
       filled-terms (d ∷ ds) = ap (λ b. is_filled_description d || b) (filled-terms ds)
 
-      made-has : (at : ℕ) (ds : List Description) → HaveDescriptions at ds
+      made-has : (at : ℕ) (ds : List Description) → HaveDescriptions at ds → TermsOrdered ds
           → AllParts k at (element_of_descriptions ds)
-      made-has at ds h =
+      made-has at ds h o =
           let all : Blocks = document.blocks_of (map description_element ds) in
           test (list_any is_filled_description ds)
-          (λ t. rw t ((rich name.Terms [] all (filled-terms ds ∙ t), refl, refl, descriptions-blocks at ds h), tt))
+          (λ t. rw t ((rich name.Terms [] all (filled-terms ds ∙ t), refl, refl, descriptions-blocks at ds h o), tt))
           (λ t. rw t tt)
 
-      pub described-has : (parts : List TermPart) → AllTerms k spaces parts → Gives k (described_parts parts)
-      described-has parts h at c f =
+      pub described-has : (parts : List TermPart) → AllTerms k spaces parts → TermsInOrder parts → (at : ℕ)
+          (c : Context) → FitsIn k at c → has_elements c ≡ true → AllParts k at (described_parts parts c)
+      described-has parts h o at c f e =
+          let both = and_parts c.is_rich (not c.is_flat) e in
           let d : Descriptions = fold (with_description c) no_descriptions parts in
           let g = all-described at c f parts no_descriptions h (record { before = tt; begun = tt }) in
           let made : List Part = element_of_descriptions d.begun in
           parts-append k at (edge ∷ d.before) (apart made) (tt, g.before)
-          (apart-has k at made (made-has at d.begun g.begun))
+          (apart-has k at made (made-has at d.begun g.begun (o c both.0 (not-true c.is_flat both.1))))
 
       -- ---- tables
 
@@ -308,7 +317,7 @@ module _ (k : Leaves) where
 
       all-fill : (pieces : List TablePiece) → AllPieces pieces → FillPieces pieces
       all-fill [] h = tt
-      all-fill (of_caption n ∷ pieces) h = all-fill pieces h.1
+      all-fill (of_caption n ∷ pieces) h = (h.0.1, all-fill pieces h.1)
       all-fill (of_row r ∷ pieces) h = (nodes-fill r.cells h.0, all-fill pieces h.1)
 
       either-pieces : (b : Bool) (ps qs : List TablePiece) → AllPieces ps → AllPieces qs
@@ -340,14 +349,16 @@ module _ (k : Leaves) where
           cells-made has_spans is_in_head c f cells h.1,
         )
 
-        pieces-made : (has_spans : Bool) (c : Context) → FitsIn k at c → (pieces : List TablePiece)
-            → AllPieces pieces
+        pieces-made : (has_spans : Bool) (c : Context) → FitsIn k at c → has_elements c ≡ true
+            → (pieces : List TablePiece) → AllPieces pieces
             → PiecesMade at (map (piece_with_blocks has_spans c) pieces)
-        pieces-made has_spans c f [] h = tt
-        pieces-made has_spans c f (of_caption n ∷ pieces) h =
-            (blocks-within n h.0 at c f, pieces-made has_spans c f pieces h.1)
-        pieces-made has_spans c f (of_row r ∷ pieces) h =
-            (cells-made has_spans r.is_in_head c f r.cells h.0, pieces-made has_spans c f pieces h.1)
+        pieces-made has_spans c f e [] h = tt
+        pieces-made has_spans c f e (of_caption n ∷ pieces) h = (
+          (blocks-within n h.0.0 at c f, ordered-within k n h.0.0 h.0.2 c e),
+          pieces-made has_spans c f e pieces h.1,
+        )
+        pieces-made has_spans c f e (of_row r ∷ pieces) h =
+            (cells-made has_spans r.is_in_head c f r.cells h.0, pieces-made has_spans c f e pieces h.1)
 
         cells-cut : (left : ℕ) (cells : List elements.Cell) → CellsMade at cells
             → CellsMade at (map (elements.cut_cell left) cells)
@@ -419,7 +430,7 @@ module _ (k : Leaves) where
             → HaveInside k in_table at (document.blocks_of (map elements.piece_element pieces))
         piece-elements [] h = tt
         piece-elements (elements.caption content ∷ pieces) h =
-            ((rich name.Caption [] content refl, refl, refl, h.0), piece-elements pieces h.1)
+            ((rich name.Caption [] content h.0.1, refl, refl, h.0.0), piece-elements pieces h.1)
         piece-elements (elements.row r ∷ pieces) h =
             let cells : Blocks = document.blocks_of (map elements.cell_element r.cells) in
             ((rich name.Row [] cells refl, refl, refl, cell-elements r.cells h.0), piece-elements pieces h.1)
@@ -439,6 +450,7 @@ module _ (k : Leaves) where
             → (elements.are_paragraphs pieces ≡ true → elements.has_header_alone pieces ≡ true
             → HeaderShows pieces)
             → ((elements.are_paragraphs pieces && elements.has_header_alone pieces) ≡ false
+            → list_any elements.is_filled_piece pieces ≡ true
             → is_neat_table (elements.border_attribute has_border)
             (document.blocks_of (map elements.piece_element pieces)) ≡ true)
             → PiecesMade at pieces → HasOption k spaces at (elements.table_of_pieces has_border pieces)
@@ -455,7 +467,7 @@ module _ (k : Leaves) where
             (λ e. (
               rich name.Table border rows
                   (and_from (has_neat_attributes name.Table border) (is_neat_table border rows)
-                  (border-neat has_border) (neat form)),
+                  (border-neat has_border) (neat form e)),
               refl,
               one-different has_border attribute.Border (codes "1"),
               piece-elements pieces h,
@@ -477,7 +489,7 @@ module _ (k : Leaves) where
           let made : List elements.Piece = pieces_with_blocks has_spans kept c in
           let made_have : PiecesMade at made =
           pieces-cut at (map (piece_with_blocks has_spans c) kept)
-          (pieces-made at has_spans c f kept (kept-have (stays has_spans) pieces h)) in
+          (pieces-made at has_spans c f e kept (kept-have (stays has_spans) pieces h)) in
           let o : Option Block = elements.table_of_pieces (has_border attributes) made in
           apart-has k at (kept_table_parts trees attributes has_spans kept nodes c)
           (either-blocks at (is_for_page trees attributes kept) all (table_with_blocks attributes kept made all)

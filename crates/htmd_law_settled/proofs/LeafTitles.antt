@@ -24,10 +24,12 @@ use Rattle.htmd_flow.specs.Flows.{titled, shows_title}
 use Rattle.htmd_flow.specs.Parts.{Part, edge}
 use Rattle.htmd_law_documents.proofs.NormalSeenLemmas.{Sits, sits-around}
 use Rattle.htmd_law_settled.specs.Leaves.{Leaves}
-use Rattle.htmd_law_settled.specs.NeatLeaves.{is_neat_element}
-use Rattle.htmd_law_settled.specs.StandingElements.{Holder, in_flow, in_details, in_figure, inside, stands_in, is_mixed}
-use Rattle.htmd_law_settled.proofs.LeafLines.{AllowsElements, HaveBlocks, HaveInside, HasIn, HasPiece, AllPartsIn, parts-flow}
+use Rattle.htmd_law_settled.proofs.OrderedLeaves.{is_ordered, is_ordered_element}
+use Rattle.htmd_law_returning.specs.ElementPlaces.{Holder, in_flow, in_details, in_figure, inside, stands_in, is_mixed}
+use Rattle.htmd_law_settled.proofs.LeafLines.{AllowsElements, HaveBlocks, HaveInside, HasIn, HasPiece, AllPartsIn}
+use Rattle.htmd_law_settled.proofs.LeafLines.{parts-flow}
 use Rattle.htmd_law_settled.proofs.LeafNodes.{FitsIn, HasNode, AllNodes, list-parts-have}
+use Rattle.htmd_law_settled.proofs.ShownHeaders.{of-figure}
 
 -- ---- titles are no items, and no white space
 
@@ -52,6 +54,30 @@ caption-alone (element id r facts attributes content) e = (by-role r e, refl)
     by-role r e = absurd (cc)
 caption-alone t e = absurd (cc)
 
+summary-title : (t : Simple) → has (is_title_of name.Summary) t ≡ true → has roles.is_title t ≡ true
+summary-title (element id r facts attributes content) e = by-role r e
+  where
+    by-role : (r : Role) → roles.is_summary r ≡ true → roles.is_title r ≡ true
+    by-role role.Summary e = refl
+    by-role r e = absurd (cc)
+summary-title t e = absurd (cc)
+
+caption-title : (t : Simple) → has (is_title_of name.FigureCaption) t ≡ true → has roles.is_title t ≡ true
+caption-title (element id r facts attributes content) e = by-role r e
+  where
+    by-role : (r : Role) → roles.is_figure_caption r ≡ true → roles.is_title r ≡ true
+    by-role role.FigureCaption e = refl
+    by-role r e = absurd (cc)
+caption-title t e = absurd (cc)
+
+pub table-title : (t : Simple) → has roles.is_caption t ≡ true → has roles.is_title t ≡ true
+table-title (element id r facts attributes content) e = by-role r e
+  where
+    by-role : (r : Role) → roles.is_caption r ≡ true → roles.is_title r ≡ true
+    by-role role.Caption e = refl
+    by-role r e = absurd (cc)
+table-title t e = absurd (cc)
+
 abbrev AreSo : (Node → Type 0) → List Node → Type 0
 AreSo IsSo [] = Unit {0}
 AreSo IsSo (n ∷ nodes) = IsSo n × AreSo IsSo nodes
@@ -75,6 +101,15 @@ module _ (k : Leaves) where
   abbrev GivesIn : Holder → (Context → List Part) → Type 0
   GivesIn o parts =
       (at : ℕ) (c : Context) → FitsIn k at c → has_elements c ≡ true → AllPartsIn k o at (parts c)
+
+  -- what is within a title of a rich document is in order
+  pub ordered-within : (n : Node) → HasNode k n → has roles.is_title n.tree ≡ true → (c : Context)
+      → has_elements c ≡ true → is_ordered (blocks_within n c) ≡ true
+  ordered-within n h t c e =
+      let both = and_parts c.is_rich (not c.is_flat) e in
+      let sits : Sits false (around_node n.tree c) =
+      sits-around n.tree c (record { rich = both.0; line = not-true c.is_flat both.1 }) in
+      h.ordered t (around_node n.tree c) sits.rich sits.line
 
   -- ---- nodes of which some are titles
 
@@ -137,12 +172,14 @@ module _ (k : Leaves) where
       module _ (o : Holder) (title : BlockElement)
           (pieces : (at : ℕ) (b : Block) → HasPiece k o at b → HasIn k o at b)
           (own : stands_in o title ≡ true) (flat : inside title ≡ in_flow)
-          (neat : (content : Blocks) → is_neat_element title [] content ≡ true) where
-        element-in : (at : ℕ) (bs : Blocks) → HaveBlocks k at bs → AllPartsIn k o at (element_part title [] bs)
-        element-in at no_blocks h = tt
-        element-in at (block b bs) h = (
+          (neat : (content : Blocks) → is_ordered content ≡ true
+          → is_ordered_element title [] content ≡ true) where
+        element-in : (at : ℕ) (bs : Blocks) → HaveBlocks k at bs → is_ordered bs ≡ true
+            → AllPartsIn k o at (element_part title [] bs)
+        element-in at no_blocks h g = tt
+        element-in at (block b bs) h g = (
           pieces at (document.element title [] (block b bs)) (
-            rich title [] (block b bs) (neat (block b bs)),
+            rich title [] (block b bs) (neat (block b bs) g),
             own,
             refl,
             subst (λ p. HaveInside k p at (block b bs)) (sym flat) h,
@@ -150,23 +187,31 @@ module _ (k : Leaves) where
           tt,
         )
 
-        title-in : (n : Node) → HasNode k n → GivesIn o (title_element title n)
-        title-in n h at c f e =
-            let made : List Part = element_part title [] (blocks_within n c) in
-            (tt, append-in o at made (edge ∷ []) (element-in at (blocks_within n c) (within n h at c f)) (tt, tt))
+        title-in : ((t : Simple) → has (is_title_of title) t ≡ true → has roles.is_title t ≡ true)
+            → (n : Node) → HasNode k n → has (is_title_of title) n.tree ≡ true
+            → GivesIn o (title_element title n)
+        title-in is-title n h t at c f e =
+            let made : List Part = element_part title [] (blocks_within n c) in (
+              tt,
+              append-in o at made (edge ∷ [])
+                  (element-in at (blocks_within n c) (within n h at c f) (ordered-within n h (is-title n.tree t) c e))
+                  (tt, tt),
+            )
 
       pub summaries-in : k.character space ≡ true → (nodes : List Node) → AllNodes k nodes
           → GivesIn in_details (titled name.Summary nodes)
       summaries-in spaces nodes h =
           titled-flow spaces in_details refl name.Summary summary-alone (λ n. Unit {0})
-          (λ n g t so. title-in in_details name.Summary (λ at b x. inr x) refl refl (λ bs. refl) n g) nodes h
+          (λ n g t so.
+          title-in in_details name.Summary (λ at b x. inr x) refl refl (λ bs q. q) summary-title n g t) nodes h
           (all-so nodes)
 
       pub captions-in : k.character space ≡ true → (nodes : List Node) → AllNodes k nodes
           → GivesIn in_figure (titled name.FigureCaption nodes)
       captions-in spaces nodes h =
           titled-flow spaces in_figure refl name.FigureCaption caption-alone (λ n. Unit {0})
-          (λ n g t so. title-in in_figure name.FigureCaption (λ at b x. inr x) refl refl (λ bs. refl) n g) nodes h
+          (λ n g t so.
+          title-in in_figure name.FigureCaption (λ at b x. inr x) refl refl (λ bs q. q) caption-title n g t) nodes h
           (all-so nodes)
 
   -- ---- captions that show nothing give nothing
@@ -185,7 +230,7 @@ module _ (k : Leaves) where
       let both = and_parts c.is_rich (not c.is_flat) e in
       let sits : Sits false (around_node n.tree c) =
       sits-around n.tree c (record { rich = both.0; line = not-true c.is_flat both.1 }) in
-      unfilled (blocks_within n c) (h.filled t (around_node n.tree c) sits.rich sits.line
+      unfilled (blocks_within n c) (h.filled (of-figure n.tree t) (around_node n.tree c) sits.rich sits.line
       ∙ (sym (ap (λ b. b && show false (content_of n.tree)) t) ∙ s))
 
   nothing-titled : (n : Node) → HasNode k n → has (is_title_of name.FigureCaption) n.tree ≡ true

@@ -1,5 +1,11 @@
 -- The lemmas of the law.
 pub mod LineShapes
+pub mod Things
+pub mod OrderedLeaves
+pub mod PlacesBeside
+pub mod EarlyTrees
+pub mod OrderedTrees
+pub mod OrderedTerms
 pub mod BoxShapes
 pub mod LinePlaces
 pub mod LineWritings
@@ -11,29 +17,38 @@ pub mod LeafContexts
 pub mod LeafTitles
 pub mod FigureCaptions
 pub mod CellAttributes
+pub mod FittingRows
 pub mod NeatTables
 pub mod LeafRich
 pub mod LeafElements
 pub mod LeafHolds
+pub mod EarlyLines
+pub mod EarlyFlows
 pub mod WholeHolds
 pub mod ShownPieces
 pub mod OneLines
 pub mod EncodedAddresses
 pub mod EncodedTables
 pub mod EncodedLeaves
+pub mod OrderedLines
+pub mod OrderedTitles
+pub mod OrderedDocuments
 pub mod NeatPages
 pub mod PlacedElements
 pub mod StandingLemmas
 pub mod PlainRoles
 pub mod PlainFormats
 pub mod HeadedPages
+pub mod NeatDocuments
 pub mod PlainBlocks
 pub mod CommonLemmas
 pub mod AnchorlessLemmas
 pub mod LastingIds
+pub mod LoneBlocks
 pub mod PlacedLemmas
 pub mod FitLemmas
 pub mod PageLemmas
 pub mod RoundLemmas
 mod Examples
 mod CommonExamples
+mod TitleExamples

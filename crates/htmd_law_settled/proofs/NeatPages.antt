@@ -1,5 +1,6 @@
 -- The trees that the document of a page is made of have neat leaves.
-use Rattle.std.proofs.Common.{◌≡◌, ℕ, true, false, List, [], ◌∷◌, Option, Some, None, refl, ap, sym, ◌∙◌, subst}
+use Rattle.std.proofs.Common.{◌≡◌, ℕ, Bool, true, false, List, [], ◌∷◌, Option, Some, None, refl, ap, sym, ◌∙◌, subst}
+use Rattle.std.proofs.Common.{inl, inr}
 use Rattle.std.specs.Prelude.{codes, not, ◌&&◌}
 use Rattle.std.specs.Str.{chars, is_utf8, IsUtf8}
 use Rattle.std.proofs.lemmas.Bool.{and_from, and_parts, true≢false}
@@ -31,12 +32,13 @@ use Rattle.htmd_document_of_tree.specs.FirstPieces.{pieced, pieced_all}
 use Rattle.htmd_document_of_tree.specs.Limits.{limited}
 use Rattle.htmd_document_of_tree.specs.Targets.{Target}
 use Rattle.htmd_document_of_tree.specs.TreeDocuments.{document_by, document_of_tree}
-use Rattle.htmd_document.specs.Documents.{block}
 use Rattle.htmd_flow.specs.Contexts.{Context, bare_in}
 use Rattle.htmd_flow.specs.Flows.{flow_all, nodes_of}
 use Rattle.htmd_flow.specs.Languages.{language_of_block}
 use Rattle.htmd_flow.specs.Levels.{list_of}
-use Rattle.htmd_shown.specs.Showings.{show}
+use Rattle.htmd_shown.specs.Marks.{letters_among}
+use Rattle.htmd_shown.specs.Roles as roles
+use Rattle.htmd_shown.specs.Showings.{code_shows, show}
 use Rattle.htmd_law_documents.specs.SimpleForms.{IsSound, AreSound}
 use Rattle.htmd_law_documents.specs.TreeForms.{is_text_tree}
 use Rattle.htmd_law_documents.proofs.ShownTreeLemmas.{page-sound}
@@ -59,12 +61,12 @@ use Rattle.htmd_law_documents.proofs.NormalPiecedLemmas.{pieced-ids, all-pieced-
 use Rattle.htmd_law_documents.specs.WrapperLaws.{final_trees}
 use Rattle.htmd_law_settled.proofs.LeafLines.{AllowsElements}
 use Rattle.htmd_law_settled.specs.Leaves.{Leaves}
-use Rattle.htmd_law_settled.specs.NeatLeaves.{neat, is_neat_code, LeavesAreNeat, NumbersFit}
+use Rattle.htmd_law_settled.specs.NeatLeaves.{is_neat_code, NumbersFit}
 use Rattle.htmd_law_settled.proofs.LeafLines.{AllCharacters, all-characters, HaveBlocks, parts-blocks}
 use Rattle.htmd_law_settled.proofs.LeafNodes.{MayHaveTables, flow-has}
 use Rattle.htmd_law_settled.proofs.ShownHeaders.{FillsCells, FillsBlocks}
 use Rattle.htmd_law_settled.proofs.LeafElements.{HasTitle, HasElement, HasRole, HasLines, HasCode, HasImage, HasTree}
-use Rattle.htmd_law_settled.proofs.LeafElements.{HaveTrees}
+use Rattle.htmd_law_settled.proofs.LeafElements.{HaveTrees, is_list_of_terms}
 use Rattle.htmd_law_settled.proofs.LeafElements.{nodes-have}
 use Rattle.htmd_document.specs.NormalInlines.{is_attribute, is_kept}
 use Rattle.std.proofs.lemmas.Str.{IsUtf8-from_is_utf8}
@@ -72,24 +74,32 @@ use Rattle.htmd_law_documents.proofs.NormalElementLemmas.{IsSource}
 use Rattle.htmd_law_documents.proofs.NormalValueLemmas.{address-fine}
 use Rattle.htmd_law_rendering.specs.RenderedTrees.{encoded_address}
 use Rattle.htmd_law_returning.specs.SettledDocuments.{is_settled_address}
-use Rattle.htmd_law_settled.specs.Leaves.{Leaves}
 use Rattle.htmd_law_settled.proofs.EncodedAddresses.{encoded-settled}
-use Rattle.htmd_law_settled.proofs.EncodedLeaves.{encoding, leaves-encoded}
+use Rattle.htmd_law_settled.proofs.EncodedLeaves.{encoding}
 use Rattle.htmd_law_settled.proofs.OneLines.{one-line, title-settled}
 use Rattle.htmd_law_returning.specs.SettledDocuments.{is_one_line, is_settled_title, has_settled_language}
 use Rattle.htmd_law_returning.specs.SettledDocuments.{is_settled_code}
 use Rattle.htmd_shown.specs.Spaces.{is_blank_text}
 use Rattle.std.proofs.lemmas.Str.{is_utf8-from_IsUtf8}
-use Rattle.htmd_law_settled.proofs.WholeHolds.{neat-holds}
-use Rattle.htmd_law_settled.proofs.LeafHolds.{blocks-hold, blocks-fit}
+use Rattle.htmd_law_settled.proofs.LeafHolds.{blocks-fit}
 use Rattle.htmd_law_settled.proofs.ShownPieces.{IsShown, clean-shown, AllShown, trimmed-shown, lines-shown}
 use Rattle.htmd_law_settled.proofs.ShownPieces.{without-shown}
 use Rattle.htmd_law_settled.proofs.ShownPieces.{without-filled, language-named, white-ascii}
 use Rattle.htmd_law_documents.proofs.PiecesLemmas.{ascii-white}
+use Rattle.htmd_law_documents.proofs.NormalSeenElementLemmas.{all-letters-said}
+use Rattle.htmd_law_anchors.proofs.BareTreeLemmas.{page-bare, limited-bare}
+use Rattle.htmd_law_anchors.proofs.PlacedLemmas.{AreBare}
+use Rattle.htmd_law_anchors.proofs.StandLemmas.{StandsWell, StandAll, anchored-stand, pieced-stand}
+use Rattle.htmd_law_documents.proofs.Readers.{holds_anchors}
+use Rattle.htmd_law_settled.proofs.EarlyFlows.{early-heading}
+use Rattle.htmd_law_settled.proofs.OrderedLeaves.{ordered}
+use Rattle.htmd_law_settled.proofs.OrderedTerms.{terms-in-order}
+use Rattle.htmd_law_settled.proofs.OrderedTrees.{title-in-order}
+use Rattle.htmd_law_settled.proofs.EarlyTrees.{HasEarly, HaveEarly, placed-early}
 
--- with its addresses encoded a tree has neat leaves
+-- with its addresses encoded a tree has such leaves
 abbrev pub leaves : Leaves
-leaves = encoding neat
+leaves = encoding ordered
 
 -- ---- leaves
 
@@ -151,15 +161,26 @@ neat-code language s e h f =
     (and_from (is_utf8 s && list_all is_shown (chars s)) (not (is_blank_text s))
     (and_from (is_utf8 s) (list_all is_shown (chars s)) utf8 h.shown) (ap not f))
 
+-- code in which nothing shows is blank
+code-blank : (content : Simples) → IsClean (all_text_among content) → AreSound content
+    → code_shows content ≡ false → is_blank_text (with_line_feeds (all_text_among content)) ≡ true
+code-blank content h u e =
+    let all : List ℕ = all_text_among content in
+    let s : List ℕ = with_line_feeds all in
+    blank-visible s (feeds-clean all h).shown
+    ∙ (ap (λ cs. not (is_filled cs)) (feeds-show all (letters_among content) (all-letters-said content u)).is
+    ∙ ap not e)
+
 code-has : (attributes : List AttributePair) (content : Simples) → IsClean (all_text_among content)
-    → HasCode leaves attributes content
-code-has attributes content h =
+    → AreSound content → HasCode leaves attributes content
+code-has attributes content h u =
     let s : List ℕ = with_line_feeds (all_text_among content) in
     let shown = clean-shown s (feeds-clean (all_text_among content) h) in
     record {
       lines = line-characters (lines_of s) (lines-shown s shown);
       block = λ near e. neat-code (language_of_block attributes (list_of content) near) (without_last_line_feed s)
           (language-named attributes (list_of content) near) (without-shown s shown) (without-filled s shown e);
+      blank = code-blank content h u;
     }
 
 description-clean : (attributes : List AttributePair) → AreTexts attributes → IsClean (description_of attributes)
@@ -203,6 +224,15 @@ ids-clean (more (formula tex is_alone attributes) ts) h = absurd h
 ids-clean (more (embedded id s title attributes ids) ts) h = absurd h
 ids-clean (more (element id r facts attributes content) ts) h = absurd h
 
+ids-sound : (ts : Simples) → AreIds ts → AreSound ts
+ids-sound none h = tt
+ids-sound (more (anchor id) ts) h = (tt, ids-sound ts h.1)
+ids-sound (more (text s) ts) h = absurd h
+ids-sound (more (image o attributes) ts) h = absurd h
+ids-sound (more (formula tex is_alone attributes) ts) h = absurd h
+ids-sound (more (embedded id s title attributes ids) ts) h = absurd h
+ids-sound (more (element id r facts attributes content) ts) h = absurd h
+
 ids-have : (ts : Simples) → AreIds ts → HaveTrees leaves ts
 ids-have none h = tt
 ids-have (more (anchor id) ts) h = (tt, ids-have ts h.1)
@@ -229,9 +259,12 @@ anchors-have id facts attributes inner h =
     let own : HasRole leaves role.Anchors attributes =
     record { link = λ e. absurd (cc); title = λ e. absurd (cc); element = tt } in (
       own,
-      code-has attributes inner (ids-clean inner h),
+      code-has attributes inner (ids-clean inner h) (ids-sound inner h),
       ids-have inner h,
       λ e. absurd (true≢false (sym e ∙ ids-unseen inner h)),
+      λ e. absurd (cc),
+      λ e. absurd (cc),
+      λ e. absurd (cc),
       λ e. absurd (cc),
     )
 
@@ -255,57 +288,90 @@ module _ (r : Role) (content : Simples) (k : Content r content) (u : AreSound co
       parts-cell (show false content) (flow_all (nodes_of content) c) (seen c rich blocks) p
       ∙ ap not (filled c rich blocks ∙ e)
 
+heading-headed : (r : Role) → roles.is_heading r ≡ true → roles.is_headed r ≡ true
+heading-headed (role.Heading level) e = refl
+heading-headed r e = absurd (true≢false (sym e))
+
+terms-fine : (r : Role) (content : Simples) → is_list_of_terms r ≡ true → Content r content → AreFine content
+terms-fine role.Terms content e (inl k) = k
+terms-fine role.Terms content e (inr (q, k)) = absurd (cc)
+terms-fine r content e k = absurd (true≢false (sym e))
+
+title-headed : (r : Role) → roles.is_title r ≡ true → roles.is_headed r ≡ true
+title-headed role.Term e = refl
+title-headed role.Caption e = refl
+title-headed role.FigureCaption e = refl
+title-headed role.Summary e = refl
+title-headed r e = absurd (true≢false (sym e))
+
 mutual
-  tree-has : (t : Simple) → IsFine t → IsSound t → HasTree leaves t
-  tree-has (text s) h u = clean-characters s h
-  tree-has (image o attributes) h u = image-has o attributes h.0 h.1
-  tree-has (formula tex is_alone attributes) h u =
+  tree-has : (here : Bool) (t : Simple) → IsFine t → IsSound t → HasEarly t → StandsWell here t
+      → HasTree leaves t
+  tree-has here (text s) h u a p = clean-characters s h
+  tree-has here (image o attributes) h u a p = image-has o attributes h.0 h.1
+  tree-has here (formula tex is_alone attributes) h u a p =
       let code : IsShown (trimmed (with_line_feeds tex)) = formula-shown tex h.0 in (
         clean-characters (in_line tex) (in_line-clean tex h.0.utf8),
         neat-code (Some (codes "math")) (trimmed (with_line_feeds tex)) refl code (formula-filled tex h),
       )
-  tree-has (embedded id s title attributes ids) h u = (
+  tree-has here (embedded id s title attributes ids) h u a p = (
     and_from (is_settled_address (encoded_address s)) true (attribute-settled s h.0) refl,
     clean-characters title
         h.1,
   )
-  tree-has (anchor id) h u = absurd h
-  tree-has (element id r facts attributes content) h u = (
-    role-has r attributes h.0,
-    code-has attributes content (content-text r content h.2),
-    by-content (HaveTrees leaves content) r content (λ k. trees-have content k u.1) (λ e k. led-have content k u.1)
-        (λ e k. apart-have content k u.1) h.2,
-    fills r content h.2 u.1,
-    λ e. filled r content h.2 u.1,
-  )
+  tree-has here (anchor id) h u a p = absurd h
+  tree-has here (element id r facts attributes content) h u a p =
+      let held : Bool = holds_anchors here r facts content in
+      let inner : HaveTrees leaves content =
+      by-content (HaveTrees leaves content) r content (λ k. trees-have held content k u.1 a.1 p)
+      (λ e k. led-have held content k u.1 a.1 p) (λ e k. apart-have held content k u.1 a.1 p) h.2 in (
+        role-has r attributes h.0,
+        code-has attributes content (content-text r content h.2) u.1,
+        inner,
+        fills r content h.2 u.1,
+        λ e. filled r content h.2 u.1,
+        λ e. early-heading leaves content (a.0 (heading-headed r e)) inner u.1,
+        λ e c rich blocks. title-in-order held content u.1 p (a.0 (title-headed r e)) c blocks,
+        λ e. terms-in-order held content (terms-fine r content e h.2) u.1 a.1 p,
+      )
 
-  trees-have : (ts : Simples) → AreFine ts → AreSound ts → HaveTrees leaves ts
-  trees-have none h u = tt
-  trees-have (more t ts) h u = (tree-has t h.0 u.0, trees-have ts h.1 u.1)
+  trees-have : (here : Bool) (ts : Simples) → AreFine ts → AreSound ts → HaveEarly ts → StandAll here ts
+      → HaveTrees leaves ts
+  trees-have here none h u a p = tt
+  trees-have here (more t ts) h u a p = (tree-has here t h.0 u.0 a.0 p.0, trees-have here ts h.1 u.1 a.1 p.1)
 
-  led-have : (ts : Simples) → IsLed ts → AreSound ts → HaveTrees leaves ts
-  led-have none h u = absurd h
-  led-have (more (anchor id) ts) h u = (tt, led-have ts h.1 u.1)
-  led-have (more (text s) ts) h u = one-tree (text s) ts (tree-has (text s) h.0 u.0) h.2
-  led-have (more (image o attributes) ts) h u =
-      one-tree (image o attributes) ts (tree-has (image o attributes) h.0 u.0) h.2
-  led-have (more (formula tex is_alone attributes) ts) h u =
-      one-tree (formula tex is_alone attributes) ts (tree-has (formula tex is_alone attributes) h.0 u.0) h.2
-  led-have (more (embedded id s title attributes ids) ts) h u =
-      one-tree (embedded id s title attributes ids) ts (tree-has (embedded id s title attributes ids) h.0 u.0) h.2
-  led-have (more (element id r facts attributes content) ts) h u =
-      one-tree (element id r facts attributes content) ts (tree-has (element id r facts attributes content) h.0 u.0) h.2
+  led-have : (here : Bool) (ts : Simples) → IsLed ts → AreSound ts → HaveEarly ts → StandAll here ts
+      → HaveTrees leaves ts
+  led-have here none h u a p = absurd h
+  led-have here (more (anchor id) ts) h u a p = (tt, led-have here ts h.1 u.1 a.1 p.1)
+  led-have here (more (text s) ts) h u a p = one-tree (text s) ts (tree-has here (text s) h.0 u.0 a.0 p.0) h.2
+  led-have here (more (image o attributes) ts) h u a p =
+      one-tree (image o attributes) ts (tree-has here (image o attributes) h.0 u.0 a.0 p.0) h.2
+  led-have here (more (formula tex is_alone attributes) ts) h u a p =
+      one-tree (formula tex is_alone attributes) ts
+      (tree-has here (formula tex is_alone attributes) h.0 u.0 a.0 p.0) h.2
+  led-have here (more (embedded id s title attributes ids) ts) h u a p =
+      one-tree (embedded id s title attributes ids) ts
+      (tree-has here (embedded id s title attributes ids) h.0 u.0 a.0 p.0) h.2
+  led-have here (more (element id r facts attributes content) ts) h u a p =
+      one-tree (element id r facts attributes content) ts
+      (tree-has here (element id r facts attributes content) h.0 u.0 a.0 p.0) h.2
 
-  apart-have : (ts : Simples) → IsLedApart ts → AreSound ts → HaveTrees leaves ts
-  apart-have (more (element id role.Anchors facts attributes inner) (more t ts)) h u =
-      (anchors-have id facts attributes inner h.0, one-tree t ts (tree-has t h.1 u.1.0) h.3)
-  apart-have ts h u = absurd h
+  apart-have : (here : Bool) (ts : Simples) → IsLedApart ts → AreSound ts → HaveEarly ts → StandAll here ts
+      → HaveTrees leaves ts
+  apart-have here (more (element id role.Anchors facts attributes inner) (more t ts)) h u a p =
+      (anchors-have id facts attributes inner h.0, one-tree t ts (tree-has here t h.1 u.1.0 a.1.0 p.1.0) h.3)
+  apart-have here ts h u a p = absurd h
 
 -- ---- pages
 
 pieced-followed : (ts us : Simples) → pieced_all (followed_by ts us) ≡ followed_by (pieced_all ts) (pieced_all us)
 pieced-followed none us = refl
 pieced-followed (more t ts) us = ap (more (pieced t)) (pieced-followed ts us)
+
+first-stand : (here : Bool) (ts us : Simples) → StandAll here (followed_by ts us) → StandAll here ts
+first-stand here none us h = tt
+first-stand here (more t ts) us h = (h.0, first-stand here ts us h.1)
 
 followed-have : (ts us : Simples) → HaveTrees leaves ts → HaveTrees leaves us
     → HaveTrees leaves (followed_by ts us)
@@ -329,6 +395,7 @@ trees-neat which sight tree e =
     let ts : Simples = limited shown in
     let clear : AreClear ts = limited-clear shown (page-clear sight tree e) in
     let sound : AreSound ts = limited-sound shown (page-sound sight tree e) in
+    let bare : AreBare ts = limited-bare shown (page-bare sight tree) in
     let p : Placing = record { seen = 0; targets = targets_by which sight.is_rich ts } in
     let named : AllNamed p.targets = targets-named which sight.is_rich ts clear in
     let placed : ArePlaced (all_placed p ts) = all-placed-fine p ts named clear in
@@ -337,7 +404,10 @@ trees-neat which sight tree e =
     let last : List Target = (placing_after_all p ts).targets in
     subst (HaveTrees leaves) (sym (pieced-followed (all_placed p ts) (last_anchors last)))
     (followed-have (pieced_all (all_placed p ts)) (pieced_all (last_anchors last))
-    (trees-have (pieced_all (all_placed p ts)) fine (pieced-sound (all_placed p ts) kept))
+    (trees-have true (pieced_all (all_placed p ts)) fine (pieced-sound (all_placed p ts) kept)
+    (placed-early which sight.is_rich ts bare)
+    (pieced-stand true (all_placed p ts)
+    (first-stand true (all_placed p ts) (last_anchors last) (anchored-stand which sight.is_rich ts bare))))
     (last-have last (all-after-named p ts named)))
 
 pub document-has : (k : Leaves) → k.character space ≡ true → k.character dollar_sign ≡ true
@@ -357,12 +427,6 @@ pub neat-document : (which : Anchors) (sight : Sight) (tree : NumberedTree)
 neat-document which sight tree e =
     document-has leaves refl refl any-format which sight tree (λ r name attributes content e. e)
     (λ header rows shown headed. shown) (trees-neat which sight tree e)
-
-pub leaves-neat : LeavesAreNeat
-leaves-neat which sight tree e =
-    leaves-encoded (document_of_tree which sight tree) ∙ blocks-hold leaves neat-holds (λ is_tight items h. h)
-    0 (document_of_tree which sight tree)
-    (neat-document which sight tree e)
 
 pub numbers-fit : NumbersFit
 numbers-fit which sight tree e =

@@ -15,7 +15,7 @@ use Rattle.htmd_document_of_tree.specs.TreeDocuments.{document_of_tree}
 use Rattle.htmd_commonmark.specs.DocumentMarkdown.{markdown_of}
 use Rattle.htmd_law_anchors.proofs.Main.{none_stand}
 use Rattle.htmd_law_documents.specs.TreeForms.{is_text_tree}
-use Rattle.htmd_law_documents.proofs.NormalMain.{documents_are_normal}
+use Rattle.htmd_law_documents.proofs.NormalMain.{documents_are_normal, lone_anchors_stand}
 use Rattle.htmd_html5.specs.Html5Documents.{html5_document}
 use Rattle.htmd_commonmark_reading.specs.Rendering.{html_of}
 use Rattle.htmd_law_reading.specs.ReadingLaws.{file_of}
@@ -33,13 +33,13 @@ use Rattle.htmd_law_returning.specs.SettledDocuments.{are_settled, are_settled_b
 use Rattle.htmd_law_returning.specs.SettledDocuments.{have_bare_headers}
 use Rattle.htmd_law_anchors.specs.AnchorLaws as anchors
 use Rattle.htmd_law_anchors.specs.DocumentMarks.{marks_of_blocks}
-use Rattle.htmd_law_returning.specs.LastingAnchors.{anchors_stay, anchors_stand, are_led_to, blocks_keep}
+use Rattle.htmd_law_returning.specs.LastingAnchors.{anchors_stay, anchors_stand, are_led_to, lines_stand}
 use Rattle.htmd_law_returning.specs.LastingAnchors.{lines_in}
-use Rattle.htmd_law_returning.specs.LastingAnchors.{are_placed}
-use Rattle.htmd_law_settled.specs.CommonDocuments.{any_line}
+use Rattle.htmd_document.specs.LoneAnchors.{all_stand}
+use Rattle.htmd_law_settled.proofs.LoneBlocks.{stand-same}
 use Rattle.htmd_law_returning.proofs.LineIds.{ids_in_lines, blocks-ids}
 use Rattle.htmd_law_settled.proofs.LastingIds.{ids-lines, ids-differ}
-use Rattle.htmd_law_settled.proofs.PlacedLemmas.{are_lines, blocks-marks, blocks-same, blocks-keep}
+use Rattle.htmd_law_settled.proofs.PlacedLemmas.{are_lines, blocks-marks, blocks-same, lines-stand}
 use Rattle.htmd_law_returning.proofs.UnplacedAnchors.{unplaced-stay}
 use Rattle.htmd_law_returning.proofs.ChangedLemmas.{formats-same}
 use Rattle.htmd_law_returning.proofs.ChangedLemmas.{tables-same}
@@ -47,13 +47,14 @@ use Rattle.htmd_law_returning.proofs.EncodedForms.{encoded-normal, settled-block
 use Rattle.htmd_law_returning.specs.ReturningLaws.{whole_sight}
 use Rattle.htmd_law_returning.specs.ComingBack.{SettledComeBack}
 use Rattle.htmd_law_settled.specs.CommonDocuments.{is_common, keeps_by, are_common_blocks, has_common_anchors}
-use Rattle.htmd_law_settled.specs.CommonDocuments.{may_stand}
+use Rattle.htmd_law_settled.specs.CommonDocuments.{is_shallow}
 use Rattle.htmd_law_settled.specs.PageLaws.{DocumentsAreSettled, PagesAreParsed, PagesComeBack, ConversionIsStable}
 use Rattle.htmd_law_settled.specs.PageLaws.{FilesAreStable}
 use Rattle.htmd_law_settled.specs.PageLaws.{AddressesStay, ComesBackAgain, ShowsAll, ShowHeaders}
 use Rattle.htmd_law_settled.proofs.EncodedLeaves.{anchorless-same, fits-same, neat-stays}
-use Rattle.htmd_law_settled.specs.StandingElements.{in_flow}
-use Rattle.htmd_law_settled.proofs.NeatPages.{leaves-neat, numbers-fit}
+use Rattle.htmd_law_returning.specs.ElementPlaces.{in_flow}
+use Rattle.htmd_law_settled.proofs.NeatDocuments.{leaves-neat}
+use Rattle.htmd_law_settled.proofs.NeatPages.{numbers-fit}
 use Rattle.htmd_law_settled.proofs.PlacedElements.{placed-same}
 use Rattle.htmd_law_settled.proofs.HeadedPages.{headers-show}
 use Rattle.htmd_law_settled.proofs.PlainFormats.{formats-shown, neat-shown, no-element}
@@ -68,14 +69,14 @@ use Rattle.htmd_law_settled.proofs.StandingLemmas.{elements-stand}
 record Common (which : Anchors) (d : Blocks) : Type 0 where
   blocks : are_common_blocks d ≡ true
   anchors : has_common_anchors which d ≡ true
-  stand : may_stand d ≡ true
+  stand : is_shallow d ≡ true
   light : is_light d ≡ true
 
 common-parts : (which : Anchors) (d : Blocks) → is_common which d ≡ true → Common which d
 common-parts which d c =
     let front : Bool = are_common_blocks d && has_common_anchors which d in
-    let p = and_parts (front && may_stand d) (is_light d) c in
-    let q = and_parts front (may_stand d) p.0 in
+    let p = and_parts (front && is_shallow d) (is_light d) c in
+    let q = and_parts front (is_shallow d) p.0 in
     let r = and_parts (are_common_blocks d) (has_common_anchors which d) q.0 in
     record { blocks = r.0; anchors = r.1; stand = q.1; light = p.1 }
 
@@ -118,7 +119,7 @@ headed which sight tree texts is_rich h = by sight.is_rich refl h
 
 -- and elements stand where they may
 all-stand : (which : Anchors) (sight : Sight) (tree : NumberedTree) → is_text_tree tree ≡ true
-    → may_stand (document_of_tree which sight tree) ≡ true
+    → is_shallow (document_of_tree which sight tree) ≡ true
     → elements_fit (document_of_tree which sight tree) ≡ true
 all-stand which sight tree texts stand =
     let d : Blocks = document_of_tree which sight tree in
@@ -126,7 +127,7 @@ all-stand which sight tree texts stand =
     stand
 
 all-fit : (which : Anchors) (sight : Sight) (tree : NumberedTree) → is_text_tree tree ≡ true
-    → may_stand (encoded (document_of_tree which sight tree)) ≡ true
+    → is_shallow (encoded (document_of_tree which sight tree)) ≡ true
     → elements_fit (document_of_tree which sight tree) ≡ true
 all-fit which sight tree texts stand =
     all-stand which sight tree texts
@@ -139,21 +140,22 @@ all-parsed parsed which sight tree options texts stand fits scripting =
     let normal = documents_are_normal which sight tree texts in
     parsed scripting options d normal (few_answered options d fits)
     (test sight.is_rich
-    (λ t. all-stand which sight tree texts (sym (ap (λ r. not r || may_stand d) t) ∙ stand))
+    (λ t. all-stand which sight tree texts (sym (ap (λ r. not r || is_shallow d) t) ∙ stand))
     (λ t. plain-fit d normal (no-element which sight tree t texts)))
 
 -- where its anchors stand where they come back they are places of their own
 anchors-stand : (which : Anchors) (sight : Sight) (tree : NumberedTree) → is_text_tree tree ≡ true
-    → are_placed any_line true (encoded (document_of_tree which sight tree)) ≡ true
+    → are_common_blocks (encoded (document_of_tree which sight tree)) ≡ true
     → anchors_stand (encoded (document_of_tree which sight tree)) ≡ true
-anchors-stand which sight tree texts placed =
+anchors-stand which sight tree texts common =
     let d : Blocks = document_of_tree which sight tree in
     let e : Blocks = encoded d in
     let ids : ids_in_lines (lines_in e) ≡ anchors.ids_of (marks_of_blocks d) =
-    sym (blocks-marks e true placed) ∙ ap anchors.ids_of (blocks-same encoded_address d) in
-    and_from (blocks_keep true e) (has_unique_ids e)
-    (blocks-keep e true (leaves-neat which sight tree texts) placed
-    (ap are_lines ids ∙ ids-lines which sight tree texts))
+    sym (blocks-marks e) ∙ ap anchors.ids_of (blocks-same encoded_address d) in
+    and_from (lines_stand e && all_stand true e) (has_unique_ids e)
+    (and_from (lines_stand e) (all_stand true e)
+    (lines-stand e (leaves-neat which sight tree texts) common (ap are_lines ids ∙ ids-lines which sight tree texts))
+    (stand-same encoded_address true d ∙ lone_anchors_stand which sight tree texts))
     (ap are_distinct (sym (blocks-ids e) ∙ ids) ∙ ids-differ which sight tree texts)
 
 -- by its own choice of anchors they stay, by All, and by another that keeps them
@@ -170,21 +172,20 @@ anchors-stay which.None again sight tree texts common keeps =
 anchors-stay which.Linked which.None sight tree texts common keeps = keeps
 anchors-stay which.Linked which.All sight tree texts common keeps =
     let e : Blocks = encoded (document_of_tree which.Linked sight tree) in
-    anchors-stand which.Linked sight tree texts
-    (and_parts (are_placed any_line true e) (are_led_to [] (lines_in e)) (common-parts which.Linked e common).anchors).0
+    anchors-stand which.Linked sight tree texts (common-parts which.Linked e common).blocks
 anchors-stay which.Linked which.Linked sight tree texts common keeps =
     let e : Blocks = encoded (document_of_tree which.Linked sight tree) in
-    let own = and_parts (are_placed any_line true e) (are_led_to [] (lines_in e))
-    (common-parts which.Linked e common).anchors in
-    and_from (anchors_stand e) (are_led_to [] (lines_in e)) (anchors-stand which.Linked sight tree texts own.0) own.1
+    let c : Common which.Linked e = common-parts which.Linked e common in
+    and_from (anchors_stand e) (are_led_to [] (lines_in e)) (anchors-stand which.Linked sight tree texts c.blocks)
+    c.anchors
 anchors-stay which.All which.None sight tree texts common keeps = keeps
 anchors-stay which.All which.All sight tree texts common keeps =
     anchors-stand which.All sight tree texts
-    (common-parts which.All (encoded (document_of_tree which.All sight tree)) common).anchors
+    (common-parts which.All (encoded (document_of_tree which.All sight tree)) common).blocks
 anchors-stay which.All which.Linked sight tree texts common keeps =
     let e : Blocks = encoded (document_of_tree which.All sight tree) in
     and_from (anchors_stand e) (are_led_to [] (lines_in e))
-    (anchors-stand which.All sight tree texts (common-parts which.All e common).anchors) keeps
+    (anchors-stand which.All sight tree texts (common-parts which.All e common).blocks) keeps
 
 pub come-back : SettledComeBack → PagesComeBack
 come-back returned which sight tree options texts common fits again scripting is_rich keeps all tables =

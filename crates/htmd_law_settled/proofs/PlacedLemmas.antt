@@ -1,13 +1,15 @@
 -- The anchors of a page's document stay, if they stand where they come back.
 use Rattle.std.proofs.Common.{◌≡◌, ℕ, Bool, true, false, not, ◌&&◌, ◌||◌, List, [], ◌∷◌, ◌++◌, map, refl, sym, ap, ◌∙◌}
 use Rattle.std.specs.List.{list_all, flat_map}
-use Rattle.std.proofs.lemmas.Bool.{and_from, and_parts, false≢true}
+use Rattle.std.proofs.lemmas.Bool.{and_from, and_parts}
 use Rattle.std.proofs.lemmas.List.{append_assoc, append-nil}
 use Rattle.htmd_document.specs.AnchorIds.{ids_of_inline, ids_of_line}
 use Rattle.htmd_document.specs.Documents.{Inline, text, code, formatted, link, image, anchor, line_break, task}
 use Rattle.htmd_document.specs.Documents.{Inlines, no_inlines, inline, Block, paragraph, heading, code_block, quote}
 use Rattle.htmd_document.specs.Documents.{thematic_break, list, table, element, tags, Blocks, no_blocks, block}
-use Rattle.htmd_document.specs.Documents.{Items, no_items, item}
+use Rattle.htmd_document.specs.Documents.{Items, no_items, item, BlockAttribute}
+use Rattle.htmd_document.specs.declared.document.BlockElement.{BlockElement}
+use Rattle.htmd_document.specs.declared.document.BlockElement.TheVariants as an
 use Rattle.htmd_document.specs.NormalInlines.{is_anchor}
 use Rattle.htmd_law_anchors.specs.AnchorLaws.{id_of}
 use Rattle.htmd_law_anchors.specs.AnchorLaws as anchors
@@ -16,12 +18,11 @@ use Rattle.htmd_law_anchors.specs.DocumentMarks.{marks_of_block, marks_of_blocks
 use Rattle.htmd_law_returning.specs.EncodedDocuments.{changed_inline, changed_inlines, changed_cells, changed_block}
 use Rattle.htmd_law_returning.specs.EncodedDocuments.{changed, changed_items}
 use Rattle.htmd_law_returning.specs.LastingAnchors.{Line, line, cells_of, lines_of, lines_in, lines_among}
-use Rattle.htmd_law_returning.specs.LastingAnchors.{keeps_anchors, line_keeps, block_keeps, blocks_keep}
-use Rattle.htmd_law_returning.specs.LastingAnchors.{items_keep, past_gaps, goes_on, is_alone, stand_alone}
+use Rattle.htmd_law_returning.specs.LastingAnchors.{line_keeps, block_lines_stand, lines_stand}
+use Rattle.htmd_law_returning.proofs.KeptBlocks.{keeps_anchors}
+use Rattle.htmd_law_returning.specs.LastingAnchors.{item_lines_stand, past_gaps, goes_on}
 use Rattle.htmd_law_returning.specs.LastingAnchors.{heading_keeps}
 use Rattle.htmd_law_returning.specs.LastingAnchors.{title_keeps, is_headed_element}
-use Rattle.htmd_law_returning.specs.NoAnchors.{has_no_anchors, have_no_anchors, block_has_no_anchors}
-use Rattle.htmd_law_returning.specs.NoAnchors.{blocks_have_no_anchors, items_have_no_anchors}
 use Rattle.htmd_law_documents.specs.DocumentTexts.{visible}
 use Rattle.htmd_law_returning.specs.SettledDocuments.{is_one_line, shows_last_column, is_right_list}
 use Rattle.htmd_law_returning.specs.WholeLines.{begins_white}
@@ -30,9 +31,9 @@ use Rattle.htmd_law_returning.proofs.LineIds.{ids_in_lines, ids-both}
 use Rattle.htmd_law_settled.specs.NeatLeaves.{any_id}
 use Rattle.htmd_law_settled.specs.Leaves.{is_line_of, is_whole_line_of, is_block_of, are_blocks_of, are_items_of}
 use Rattle.htmd_law_settled.specs.Leaves.{are_cells_of}
-use Rattle.htmd_law_settled.specs.NeatLeaves.{neat, is_neat_line, is_neat_element}
-use Rattle.htmd_law_returning.specs.LastingAnchors.{block_is_placed, are_placed, items_are_placed}
-use Rattle.htmd_law_settled.specs.CommonDocuments.{any_line}
+use Rattle.htmd_law_settled.specs.NeatLeaves.{neat, is_neat_line, is_neat_element, has_neat_attributes}
+use Rattle.htmd_law_settled.specs.CommonDocuments.{is_common_element, is_common_block, are_common_blocks}
+use Rattle.htmd_law_settled.specs.CommonDocuments.{are_common_items}
 
 -- ---- the ids of lines
 
@@ -84,107 +85,36 @@ rows-marks (r ∷ rs) =
     ∙ (ap (λ ids. ids_in_lines (cells_of r) ++ ids) (rows-marks rs)
     ∙ sym (ids-both (cells_of r) (flat_map cells_of rs))))
 
--- none where no anchors are
 mutual
-  no-inline-ids : (x : Inline) → has_no_anchors x ≡ true → ids_of_inline x ≡ []
-  no-inline-ids (text s) h = refl
-  no-inline-ids (code s) h = refl
-  no-inline-ids (formatted f content) h = no-line-ids content h
-  no-inline-ids (link address title content) h = no-line-ids content h
-  no-inline-ids (image address title description) h = refl
-  no-inline-ids (anchor id) h = absurd (false≢true h)
-  no-inline-ids line_break h = refl
-  no-inline-ids (task is_checked) h = refl
-
-  no-line-ids : (xs : Inlines) → have_no_anchors xs ≡ true → ids_of_line xs ≡ []
-  no-line-ids no_inlines h = refl
-  no-line-ids (inline x xs) h =
-      let p = and_parts (has_no_anchors x) (have_no_anchors xs) h in
-      rw (no-inline-ids x p.0, no-line-ids xs p.1) refl
-
-no-cell-marks : (cells : List Inlines) → list_all have_no_anchors cells ≡ true
-    → anchors.ids_of (marks_of_cells cells) ≡ []
-no-cell-marks [] h = refl
-no-cell-marks (c ∷ cs) h =
-    let p = and_parts (have_no_anchors c) (list_all have_no_anchors cs) h in
-    marks-both (marks_of_line c) (marks_of_cells cs)
-    ∙ rw (line-marks c, no-line-ids c p.0, no-cell-marks cs p.1) refl
-
-no-row-marks : (rows : List (List Inlines)) → list_all (list_all have_no_anchors) rows ≡ true
-    → anchors.ids_of (flat_map marks_of_cells rows) ≡ []
-no-row-marks [] h = refl
-no-row-marks (r ∷ rs) h =
-    let p = and_parts (list_all have_no_anchors r) (list_all (list_all have_no_anchors) rs) h in
-    marks-both (marks_of_cells r) (flat_map marks_of_cells rs)
-    ∙ rw (no-cell-marks r p.0, no-row-marks rs p.1) refl
-
-mutual
-  no-block-marks : (b : Block) → block_has_no_anchors b ≡ true → anchors.ids_of (marks_of_block b) ≡ []
-  no-block-marks (paragraph content) h = line-marks content ∙ no-line-ids content h
-  no-block-marks (heading level content) h = line-marks content ∙ no-line-ids content h
-  no-block-marks (code_block language s) h = no-letters (visible s)
-  no-block-marks (quote content) h = no-marks content h
-  no-block-marks thematic_break h = refl
-  no-block-marks (list start is_tight items) h = no-item-marks items h
-  no-block-marks (table alignments header rows) h =
-      let p = and_parts (list_all have_no_anchors header) (list_all (list_all have_no_anchors) rows) h in
-      marks-both (marks_of_cells header) (flat_map marks_of_cells rows)
-      ∙ rw (no-cell-marks header p.0, no-row-marks rows p.1) refl
-  no-block-marks (element name attributes content) h = no-marks content h
-  no-block-marks (tags s) h = refl
-
-  no-marks : (d : Blocks) → blocks_have_no_anchors d ≡ true → anchors.ids_of (marks_of_blocks d) ≡ []
-  no-marks no_blocks h = refl
-  no-marks (block b bs) h =
-      let p = and_parts (block_has_no_anchors b) (blocks_have_no_anchors bs) h in
-      marks-both (marks_of_block b) (marks_of_blocks bs) ∙ rw (no-block-marks b p.0, no-marks bs p.1) refl
-
-  no-item-marks : (items : Items) → items_have_no_anchors items ≡ true
-      → anchors.ids_of (marks_of_items items) ≡ []
-  no-item-marks no_items h = refl
-  no-item-marks (item bs rest) h =
-      let p = and_parts (blocks_have_no_anchors bs) (items_have_no_anchors rest) h in
-      marks-both (marks_of_blocks bs) (marks_of_items rest) ∙ rw (no-marks bs p.0, no-item-marks rest p.1) refl
-
-mutual
-  block-marks : (b : Block) → block_is_placed any_line b ≡ true
-      → anchors.ids_of (marks_of_block b) ≡ ids_in_lines (lines_of b)
-  block-marks (paragraph content) p = one-line-marks false content
-  block-marks (heading level content) p = one-line-marks true content
-  block-marks (code_block language s) p = no-letters (visible s)
-  block-marks (quote content) p = blocks-marks content false p
-  block-marks thematic_break p = refl
-  block-marks (list start is_tight items) p = items-marks items p
-  block-marks (table alignments header rows) p =
+  block-marks : (b : Block) → anchors.ids_of (marks_of_block b) ≡ ids_in_lines (lines_of b)
+  block-marks (paragraph content) = one-line-marks false content
+  block-marks (heading level content) = one-line-marks true content
+  block-marks (code_block language s) = no-letters (visible s)
+  block-marks (quote content) = blocks-marks content
+  block-marks thematic_break = refl
+  block-marks (list start is_tight items) = items-marks items
+  block-marks (table alignments header rows) =
       marks-both (marks_of_cells header) (flat_map marks_of_cells rows)
       ∙ (ap (λ ids. ids ++ anchors.ids_of (flat_map marks_of_cells rows)) (cells-marks header)
       ∙ (ap (λ ids. ids_in_lines (cells_of header) ++ ids) (rows-marks rows)
       ∙ sym (ids-both (cells_of header) (flat_map cells_of rows))))
-  block-marks (element name attributes content) p =
-      blocks-marks content false
-      (and_parts (are_placed any_line false content) (not (is_headed_element name) || title_keeps content) p).0
-  block-marks (tags s) p = refl
+  block-marks (element name attributes content) = blocks-marks content
+  block-marks (tags s) = refl
 
-  pub blocks-marks : (d : Blocks) (is_end : Bool) → are_placed any_line is_end d ≡ true
-      → anchors.ids_of (marks_of_blocks d) ≡ ids_in_lines (lines_in d)
-  blocks-marks no_blocks is_end p = refl
-  blocks-marks (block b bs) is_end p =
-      let alone : Bool = not (is_alone b) || stand_alone is_end bs in
-      let q = and_parts (block_is_placed any_line b && alone) (are_placed any_line is_end bs) p in
-      let r = and_parts (block_is_placed any_line b) alone q.0 in
+  pub blocks-marks : (d : Blocks) → anchors.ids_of (marks_of_blocks d) ≡ ids_in_lines (lines_in d)
+  blocks-marks no_blocks = refl
+  blocks-marks (block b bs) =
       marks-both (marks_of_block b) (marks_of_blocks bs)
-      ∙ (ap (λ ids. ids ++ anchors.ids_of (marks_of_blocks bs)) (block-marks b r.0)
-      ∙ (ap (λ ids. ids_in_lines (lines_of b) ++ ids) (blocks-marks bs is_end q.1)
+      ∙ (ap (λ ids. ids ++ anchors.ids_of (marks_of_blocks bs)) (block-marks b)
+      ∙ (ap (λ ids. ids_in_lines (lines_of b) ++ ids) (blocks-marks bs)
       ∙ sym (ids-both (lines_of b) (lines_in bs))))
 
-  items-marks : (items : Items) → items_are_placed any_line items ≡ true
-      → anchors.ids_of (marks_of_items items) ≡ ids_in_lines (lines_among items)
-  items-marks no_items p = refl
-  items-marks (item bs rest) p =
-      let q = and_parts (are_placed any_line false bs) (items_are_placed any_line rest) p in
+  items-marks : (items : Items) → anchors.ids_of (marks_of_items items) ≡ ids_in_lines (lines_among items)
+  items-marks no_items = refl
+  items-marks (item bs rest) =
       marks-both (marks_of_blocks bs) (marks_of_items rest)
-      ∙ (ap (λ ids. ids ++ anchors.ids_of (marks_of_items rest)) (blocks-marks bs false q.0)
-      ∙ (ap (λ ids. ids_in_lines (lines_in bs) ++ ids) (items-marks rest q.1)
+      ∙ (ap (λ ids. ids ++ anchors.ids_of (marks_of_items rest)) (blocks-marks bs)
+      ∙ (ap (λ ids. ids_in_lines (lines_in bs) ++ ids) (items-marks rest)
       ∙ sym (ids-both (lines_in bs) (lines_among rest))))
 
 -- ---- with other addresses
@@ -307,51 +237,59 @@ rows-keep (r ∷ rs) n h =
     and_from (list_all line_keeps r) (list_all (list_all line_keeps) rs) (cells-keep r p.0 ids.0)
     (rows-keep rs p.1 ids.1)
 
+title-first : (name : BlockElement) (attributes : List BlockAttribute) (content : Blocks)
+    → is_neat_element name attributes content ≡ true
+    → (not (is_headed_element name) || title_keeps content) ≡ true
+title-first an.Summary attributes content n =
+    (and_parts (has_neat_attributes an.Summary attributes) (title_keeps content) n).1
+title-first an.Term attributes content n =
+    (and_parts (has_neat_attributes an.Term attributes) (title_keeps content) n).1
+title-first an.FigureCaption attributes content n =
+    (and_parts (has_neat_attributes an.FigureCaption attributes) (title_keeps content) n).1
+title-first an.Caption attributes content n =
+    (and_parts (has_neat_attributes an.Caption attributes) (title_keeps content) n).1
+title-first name attributes content n = refl
+
 mutual
-  block-keeps : (b : Block) → is_block_of neat b ≡ true → block_is_placed any_line b ≡ true
-      → are_lines (ids_in_lines (lines_of b)) ≡ true → block_keeps b ≡ true
-  block-keeps (paragraph content) n p h = one-line-keeps false content n h
-  block-keeps (heading level content) n p h =
-      and_from (line_keeps content) (heading_keeps content) (one-line-keeps true content n h) p
-  block-keeps (code_block language s) n p h = refl
-  block-keeps (quote content) n p h = blocks-keep content false n p h
-  block-keeps thematic_break n p h = refl
-  block-keeps (list start is_tight items) n p h =
-      items-keep items (and_parts (is_right_list is_tight items) (are_items_of neat items) n).1 p h
-  block-keeps (table alignments header rows) n p h =
+  block-stands : (b : Block) → is_block_of neat b ≡ true → is_common_block b ≡ true
+      → are_lines (ids_in_lines (lines_of b)) ≡ true → block_lines_stand b ≡ true
+  block-stands (paragraph content) n l h = one-line-keeps false content n h
+  block-stands (heading level content) n l h =
+      let m = and_parts (is_whole_line_of neat content) (heading_keeps content) n in
+      and_from (line_keeps content) (heading_keeps content) (one-line-keeps true content m.0 h) m.1
+  block-stands (code_block language s) n l h = refl
+  block-stands (quote content) n l h = lines-stand content n l h
+  block-stands thematic_break n l h = refl
+  block-stands (list start is_tight items) n l h =
+      items-stand items (and_parts (is_right_list is_tight items) (are_items_of neat items) n).1 l h
+  block-stands (table alignments header rows) n l h =
       let m = and_parts (shows_last_column header rows) (are_cells_of neat header && list_all (are_cells_of neat) rows)
       n in
-      let l = and_parts (are_cells_of neat header) (list_all (are_cells_of neat) rows) m.1 in
+      let c = and_parts (are_cells_of neat header) (list_all (are_cells_of neat) rows) m.1 in
       let ids = parted (cells_of header) (flat_map cells_of rows) h in
-      and_from (list_all line_keeps header) (list_all (list_all line_keeps) rows) (cells-keep header l.0 ids.0)
-      (rows-keep rows l.1 ids.1)
-  block-keeps (element name attributes content) n p h =
+      and_from (list_all line_keeps header) (list_all (list_all line_keeps) rows) (cells-keep header c.0 ids.0)
+      (rows-keep rows c.1 ids.1)
+  block-stands (element name attributes content) n l h =
       let first : Bool = not (is_headed_element name) || title_keeps content in
-      let placed = and_parts (are_placed any_line false content) first p in
-      and_from (blocks_keep false content) first
-      (blocks-keep content false (and_parts (is_neat_element name attributes content) (are_blocks_of neat content) n).1
-      placed.0 h) placed.1
-  block-keeps (tags s) n p h = refl
+      let p = and_parts (is_common_element name attributes content) (are_common_blocks content) l in
+      let m = and_parts (is_neat_element name attributes content) (are_blocks_of neat content) n in
+      and_from (lines_stand content) first (lines-stand content m.1 p.1 h) (title-first name attributes content m.0)
+  block-stands (tags s) n l h = refl
 
-  pub blocks-keep : (d : Blocks) (is_end : Bool) → are_blocks_of neat d ≡ true
-      → are_placed any_line is_end d ≡ true
-      → are_lines (ids_in_lines (lines_in d)) ≡ true → blocks_keep is_end d ≡ true
-  blocks-keep no_blocks is_end n p h = refl
-  blocks-keep (block b bs) is_end n p h =
-      let alone : Bool = not (is_alone b) || stand_alone is_end bs in
+  pub lines-stand : (d : Blocks) → are_blocks_of neat d ≡ true → are_common_blocks d ≡ true
+      → are_lines (ids_in_lines (lines_in d)) ≡ true → lines_stand d ≡ true
+  lines-stand no_blocks n l h = refl
+  lines-stand (block b bs) n l h =
       let m = and_parts (is_block_of neat b) (are_blocks_of neat bs) n in
-      let q = and_parts (block_is_placed any_line b && alone) (are_placed any_line is_end bs) p in
-      let r = and_parts (block_is_placed any_line b) alone q.0 in
+      let p = and_parts (is_common_block b) (are_common_blocks bs) l in
       let ids = parted (lines_of b) (lines_in bs) h in
-      and_from (block_keeps b && alone) (blocks_keep is_end bs)
-      (and_from (block_keeps b) alone (block-keeps b m.0 r.0 ids.0) r.1) (blocks-keep bs is_end m.1 q.1 ids.1)
+      and_from (block_lines_stand b) (lines_stand bs) (block-stands b m.0 p.0 ids.0) (lines-stand bs m.1 p.1 ids.1)
 
-  items-keep : (items : Items) → are_items_of neat items ≡ true → items_are_placed any_line items ≡ true
-      → are_lines (ids_in_lines (lines_among items)) ≡ true → items_keep items ≡ true
-  items-keep no_items n p h = refl
-  items-keep (item bs rest) n p h =
+  items-stand : (items : Items) → are_items_of neat items ≡ true → are_common_items items ≡ true
+      → are_lines (ids_in_lines (lines_among items)) ≡ true → item_lines_stand items ≡ true
+  items-stand no_items n l h = refl
+  items-stand (item bs rest) n l h =
       let m = and_parts (are_blocks_of neat bs) (are_items_of neat rest) n in
-      let q = and_parts (are_placed any_line false bs) (items_are_placed any_line rest) p in
+      let p = and_parts (are_common_blocks bs) (are_common_items rest) l in
       let ids = parted (lines_in bs) (lines_among rest) h in
-      and_from (blocks_keep false bs) (items_keep rest) (blocks-keep bs false m.0 q.0 ids.0)
-      (items-keep rest m.1 q.1 ids.1)
+      and_from (lines_stand bs) (item_lines_stand rest) (lines-stand bs m.0 p.0 ids.0) (items-stand rest m.1 p.1 ids.1)

@@ -28,6 +28,7 @@ use Rattle.htmd_document_of_tree.specs.TreeDocuments.{document_of_tree}
 use Rattle.htmd_law_documents.specs.TreeForms.{is_text_tree}
 use Rattle.htmd_law_documents.specs.WrapperLaws.{final_trees}
 use Rattle.htmd_law_returning.specs.PageFormats.{format_shows, inline_shows, line_shows, block_shows, formats_show}
+use Rattle.htmd_law_returning.specs.LastingAnchors.{heading_keeps}
 use Rattle.htmd_law_returning.specs.PageFormats.{items_show}
 use Rattle.htmd_law_returning.specs.SettledDocuments.{is_right_list}
 use Rattle.htmd_law_settled.specs.Leaves.{Leaves, is_inline_of, is_line_of, is_whole_line_of, are_cells_of}
@@ -50,6 +51,7 @@ plain = record {
   image = λ address title description. true;
   code = λ language s. true;
   line = λ xs. true;
+  heading = λ xs. true;
   list = λ is_tight items. true;
   table = λ header rows. true;
   element = λ name attributes content. false;
@@ -101,10 +103,14 @@ mutual
     record {
       lines = lines-plain (lines_of (with_line_feeds (all_text_among content))) h.1.lines;
       block = λ near e. refl;
+      blank = h.1.blank;
     },
     trees-plain-too content h.2 p.1,
     h.3,
     h.4,
+    λ e c f. refl,
+    h.6,
+    h.7,
   )
 
   trees-plain-too : (ts : Simples) → HaveTrees leaves ts → ArePlain ts → HaveTrees plain ts
@@ -164,7 +170,7 @@ module _ (is_rich : Bool) where
   mutual
     block-shown : (n : ℕ) (b : Block) → HasBlock plain n b → block_shows is_rich b ≡ true
     block-shown n (paragraph content) h = line-shown content h.0
-    block-shown n (heading level content) h = line-shown content h.0
+    block-shown n (heading level content) h = line-shown content h.0.0
     block-shown n (code_block language s) h = refl
     block-shown n (quote content) h = blocks-shown (suc n) content h
     block-shown n thematic_break h = refl
@@ -246,7 +252,8 @@ neat-rows (r ∷ rows) h =
 mutual
   neat-block : (b : Block) → is_block_of neat b ≡ true → block_shows true b ≡ true
   neat-block (paragraph content) h = neat-whole content h
-  neat-block (heading level content) h = neat-whole content h
+  neat-block (heading level content) h =
+      neat-whole content (and_parts (is_whole_line_of neat content) (heading_keeps content) h).0
   neat-block (code_block language s) h = refl
   neat-block (quote content) h = neat-shown content h
   neat-block thematic_break h = refl

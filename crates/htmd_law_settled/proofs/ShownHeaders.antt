@@ -12,7 +12,7 @@ use Rattle.htmd_document.specs.TightItems.{is_filled}
 use Rattle.htmd_flow.specs.Contexts.{Context, beside_code}
 use Rattle.htmd_flow.specs.Flows.{Node, TablePiece, of_caption, of_row, blocks_of, rows_in, has_cell, may_span}
 use Rattle.htmd_flow.specs.Flows.{follows_in_part, have_row_spans, content_shows, stays, kept_pieces, in_cell}
-use Rattle.htmd_flow.specs.Flows.{cell_with_blocks, piece_with_blocks, pieces_with_blocks}
+use Rattle.htmd_flow.specs.Flows.{cell_with_blocks, piece_with_blocks, pieces_with_blocks, blocks_within, around_node}
 use Rattle.htmd_flow.specs.Grids.{is_same_part, is_empty_cell, with_cell, trimmed_row, padded}
 use Rattle.htmd_flow.specs.Parts.{Part}
 use Rattle.htmd_flow.specs.TableElements as elements
@@ -21,6 +21,10 @@ use Rattle.htmd_flow.specs.TableElements.{cut_cell, cut_all, stretch_of, stretch
 use Rattle.htmd_flow.specs.TableElements.{is_paragraph_cell, are_paragraphs, cell_line, line_of}
 use Rattle.htmd_shown.specs.declared.role.Role.TheVariants as role
 use Rattle.htmd_shown.specs.SimpleTrees.{Simple, text, image, formula, embedded, anchor, element}
+use Rattle.htmd_shown.specs.Roles as roles
+use Rattle.htmd_shown.specs.Kinds.{has}
+use Rattle.htmd_shown.specs.declared.role.Role.{Role}
+use Rattle.htmd_law_documents.proofs.NormalSeenLemmas.{Sits, sits-around}
 use Rattle.htmd_law_returning.specs.SettledDocuments.{shows_header}
 
 -- in a rich document what shows fills a cell
@@ -34,13 +38,25 @@ abbrev pub FillsBlocks : Bool → (Context → List Part) → Type 0
 FillsBlocks shown parts = (c : Context) → c.is_rich ≡ true → c.is_flat ≡ false
     → is_filled (blocks_of false (parts c)) ≡ shown
 
+-- the caption of a figure or a table
+abbrev pub is_any_caption : Role → Bool
+is_any_caption r = roles.is_figure_caption r || roles.is_caption r
+
+pub of-figure : (t : Simple) → has roles.is_figure_caption t ≡ true → has is_any_caption t ≡ true
+of-figure (element id r facts attributes content) e = ap (λ b. b || roles.is_caption r) e
+of-figure t e = absurd (cc)
+
+pub of-table : (t : Simple) → has roles.is_caption t ≡ true → has is_any_caption t ≡ true
+of-table (element id r facts attributes content) e = or_right (roles.is_figure_caption r) (roles.is_caption r) e
+of-table t e = absurd (cc)
+
 abbrev pub FillNodes : List Node → Type 0
 FillNodes [] = Unit {0}
 FillNodes (n ∷ nodes) = FillsCells (content_shows n.tree) n.content × FillNodes nodes
 
 abbrev pub FillPieces : List TablePiece → Type 0
 FillPieces [] = Unit {0}
-FillPieces (of_caption n ∷ pieces) = FillPieces pieces
+FillPieces (of_caption n ∷ pieces) = FillsBlocks (content_shows n.tree) n.content × FillPieces pieces
 FillPieces (of_row r ∷ pieces) = FillNodes r.cells × FillPieces pieces
 
 -- ---- where the first row alone is a header, no cell spans rows
@@ -48,9 +64,9 @@ FillPieces (of_row r ∷ pieces) = FillNodes r.cells × FillPieces pieces
 abbrev pub one_row : elements.Cell → Bool
 one_row c = not (nat_lt 1 c.rows)
 
--- it is a row whose cells take one row each
+-- no cell takes more than one row
 abbrev pub no_spans : elements.Piece → Bool
-no_spans (elements.caption content) = false
+no_spans (elements.caption content) = true
 no_spans (elements.row r) = list_all one_row r.cells
 
 either-false : (a b : Bool) → not (a || b) ≡ true → not b ≡ true
@@ -137,7 +153,7 @@ module _ (c : Context) where
   no-row-spans : (kept : List TablePiece) → list_all no_spans (cut_all (map made_piece kept)) ≡ true
       → have_row_spans (rows_in kept) ≡ false
   no-row-spans [] h = refl
-  no-row-spans (of_caption n ∷ kept) h = absurd (false≢true h)
+  no-row-spans (of_caption n ∷ kept) h = no-row-spans kept h
   no-row-spans (of_row r ∷ kept) h =
       let left : ℕ = (stretched r.part (stretch_of (map made_piece kept))).left in
       let own = list_all one_row (map (cut_cell left) (map (cell_with_blocks true r.is_in_head c) r.cells)) in
@@ -181,11 +197,11 @@ all-kept b (p ∷ pieces) = at (stays b p) refl (all-kept b pieces)
 
 kept-fill : (b : Bool) (pieces : List TablePiece) → FillPieces pieces → FillPieces (filter (stays b) pieces)
 kept-fill b [] h = tt
-kept-fill b (of_caption n ∷ pieces) h = at (stays b (of_caption n)) (kept-fill b pieces h)
+kept-fill b (of_caption n ∷ pieces) h = at (stays b (of_caption n)) (kept-fill b pieces h.1)
   where
     at : (x : Bool) → FillPieces (filter (stays b) pieces)
         → FillPieces (cond x (of_caption n ∷ filter (stays b) pieces) (filter (stays b) pieces))
-    at true g = g
+    at true g = (h.0, g)
     at false g = g
 kept-fill b (of_row r ∷ pieces) h = at (stays b (of_row r)) (kept-fill b pieces h.1)
   where
@@ -252,20 +268,28 @@ module _ (c : Context) (rich : c.is_rich ≡ true) (blocks : c.is_flat ≡ false
       (row-filled left in_head cells f.1
       (sym (ap (λ b. b || list_any (λ (n : Node). content_shows n.tree) cells) e) ∙ h)))
 
-  -- something stands in each row in which something shows
+  caption-filled : (n : Node) → FillsBlocks (content_shows n.tree) n.content → content_shows n.tree ≡ true
+      → is_filled (blocks_within n c) ≡ true
+  caption-filled n f s =
+      let sits : Sits false (around_node n.tree c) =
+      sits-around n.tree c (record { rich = rich; line = blocks }) in
+      f (around_node n.tree c) sits.rich sits.line ∙ s
+
+  -- something stands in each row and caption in which something shows
   rows-filled : (kept : List TablePiece) → FillPieces kept → list_all (stays false) kept ≡ true
-      → list_all no_spans (pieces_with_blocks false kept c) ≡ true
       → list_all elements.is_filled_piece (pieces_with_blocks false kept c) ≡ true
-  rows-filled [] f s o = refl
-  rows-filled (of_caption n ∷ kept) f s o = absurd (false≢true o)
-  rows-filled (of_row r ∷ kept) f s o =
+  rows-filled [] f s = refl
+  rows-filled (of_caption n ∷ kept) f s =
+      let p = and_parts (content_shows n.tree) (list_all (stays false) kept) s in
+      and_from (is_filled (blocks_within n c)) (list_all elements.is_filled_piece (pieces_with_blocks false kept c))
+      (caption-filled n f.0 p.0) (rows-filled kept f.1 p.1)
+  rows-filled (of_row r ∷ kept) f s =
       let left : ℕ = (stretched r.part (stretch_of (map (piece_with_blocks false c) kept))).left in
       let own = map (cut_cell left) (map (cell_with_blocks false r.is_in_head c) r.cells) in
       let p = and_parts (has_cell content_shows r) (list_all (stays false) kept) s in
-      let q = and_parts (list_all one_row own) (list_all no_spans (pieces_with_blocks false kept c)) o in
       and_from (list_any elements.is_filled_cell own)
       (list_all elements.is_filled_piece (pieces_with_blocks false kept c))
-      (row-filled left r.is_in_head r.cells f.0 p.0) (rows-filled kept f.1 p.1 q.1)
+      (row-filled left r.is_in_head r.cells f.0 p.0) (rows-filled kept f.1 p.1)
 
   -- and where a cell takes more than one row, one does so in the document
   pub all-filled : (pieces : List TablePiece) → FillPieces pieces
@@ -280,7 +304,7 @@ module _ (c : Context) (rich : c.is_rich ≡ true) (blocks : c.is_flat ≡ false
       at true e o =
           let none = no-row-spans c (filter (stays true) pieces) o in
           absurd (true≢false (sym e ∙ (sym (ap have_row_spans (rows-stay pieces)) ∙ none)))
-      at false e o = rows-filled (filter (stays false) pieces) (kept-fill false pieces f) (all-kept false pieces) o
+      at false e o = rows-filled (filter (stays false) pieces) (kept-fill false pieces f) (all-kept false pieces)
 
   abbrev first_shown : Bool → List TablePiece → Type 0
   first_shown spans kept = shows_header (get_or (map line_of (pieces_with_blocks spans kept c)) 0 []) ≡ true

@@ -17,9 +17,9 @@ use Rattle.htmd_law_rendering.specs.PlainReadings.{element_is_strict, takes_bloc
 use Rattle.htmd_law_rendering.specs.PlainReadings.{around_content, block_elements_are_strict}
 use Rattle.htmd_law_rendering.specs.PlainReadings.{elements_are_strict, item_elements_are_strict}
 use Rattle.htmd_law_settled.specs.Leaves.{Leaves}
+use Rattle.htmd_law_returning.specs.ElementPlaces.{Holder, in_flow, in_details, in_figure, in_terms, in_table, in_row}
+use Rattle.htmd_law_returning.specs.ElementPlaces.{inside, stands_in}
 use Rattle.htmd_law_settled.specs.StandingElements.{ElementsStand}
-use Rattle.htmd_law_settled.specs.StandingElements.{Holder, in_flow, in_details, in_figure, in_terms, in_table, in_row}
-use Rattle.htmd_law_settled.specs.StandingElements.{inside, stands_in}
 use Rattle.htmd_law_settled.proofs.LeafLines.{are_different, HasBlock, HasPiece, HaveInside, HaveItems}
 use Rattle.htmd_law_settled.proofs.NeatPages.{leaves, neat-document}
 use Rattle.htmd_law_settled.proofs.PlacedElements.{inside-placed}

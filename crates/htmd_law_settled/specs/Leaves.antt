@@ -1,5 +1,5 @@
 -- What leaves of a document may be like.
-use Rattle.std.specs.Prelude.{ℕ, Bool, true, ◌&&◌, List, [], Option}
+use Rattle.std.specs.Prelude.{ℕ, Bool, true, ◌&&◌, List, Option}
 use Rattle.std.specs.List.{list_all}
 use Rattle.std.specs.Str.{chars}
 use Rattle.htmd_document.specs.Formats.{Format}
@@ -10,7 +10,8 @@ use Rattle.htmd_document.specs.Documents.{Items, no_items, item, BlockAttribute}
 use Rattle.htmd_document.specs.declared.document.BlockElement.{BlockElement}
 
 -- the characters of texts and codes in lines, formats, addresses with titles, images, code blocks, and whole lines,
--- whether lists are tight, the header and rows of tables, and elements with their attributes and content
+-- what headings hold, lists, tight or not, with their items, the header and rows of tables, and elements with their
+-- attributes and content
 pub record Leaves : Type 0 where
   pub character : ℕ → Bool
   pub format : Format → Bool
@@ -18,6 +19,7 @@ pub record Leaves : Type 0 where
   pub image : List ℕ → Option (List ℕ) → List ℕ → Bool
   pub code : Option (List ℕ) → List ℕ → Bool
   pub line : Inlines → Bool
+  pub heading : Inlines → Bool
   pub list : Bool → Items → Bool
   pub table : List Inlines → List (List Inlines) → Bool
   pub element : BlockElement → List BlockAttribute → Blocks → Bool
@@ -51,7 +53,7 @@ module _ (k : Leaves) where
   abbrev mutual
     pub is_block_of : Block → Bool
     is_block_of (paragraph content) = is_whole_line_of content
-    is_block_of (heading level content) = is_whole_line_of content
+    is_block_of (heading level content) = is_whole_line_of content && k.heading content
     is_block_of (code_block language s) = k.code language s
     is_block_of (quote content) = are_blocks_of content
     is_block_of thematic_break = true

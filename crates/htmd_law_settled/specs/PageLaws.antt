@@ -21,14 +21,14 @@ use Rattle.htmd_law_returning.specs.EncodedDocuments.{encoded}
 use Rattle.htmd_law_returning.specs.SettledDocuments.{are_settled, have_bare_headers}
 use Rattle.htmd_law_returning.specs.ReturningLaws.{whole_sight}
 use Rattle.htmd_law_returning.specs.ComingBack.{page_back}
-use Rattle.htmd_law_settled.specs.CommonDocuments.{is_common, keeps_by, may_stand}
+use Rattle.htmd_law_settled.specs.CommonDocuments.{is_common, keeps_by, is_shallow}
 
 -- The HTML of the Markdown of the document of every tree of texts, rich or not, with whatever anchors, is read by the
 -- reader of any page as the trees that it is spelled of, if the Markdown fits a text of the machine; of a rich one, if
 -- elements, quotes and lists are only so deep in each other.
 abbrev pub PagesAreParsed : Type 0
 PagesAreParsed = (which : Anchors) (sight : Sight) (tree : NumberedTree) (options : DocumentOptions)
-    → is_text_tree tree ≡ true → (not sight.is_rich || may_stand (document_of_tree which sight tree)) ≡ true
+    → is_text_tree tree ≡ true → (not sight.is_rich || is_shallow (document_of_tree which sight tree)) ≡ true
     → length (markdown_of options (document_of_tree which sight tree)) < 2 ^ 64
     → (scripting : Bool) → html5_document scripting
     (html_of (reading_of options (document_of_tree which sight tree)))

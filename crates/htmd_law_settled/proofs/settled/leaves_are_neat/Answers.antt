@@ -1,4 +1,4 @@
-use Rattle.htmd_law_settled.proofs.NeatPages.{leaves-neat}
+use Rattle.htmd_law_settled.proofs.NeatDocuments.{leaves-neat}
 use Rattle.htmd_law_settled.proofs.settled.leaves_are_neat.Goals as goal
 
 pub returns : goal.returns
