@@ -74,10 +74,10 @@ fn write_values<W: Write>(out: &mut W, name: &str) -> fmt::Result {
 fn write_unknown<W: Write>(out: &mut W, given: &str) -> fmt::Result {
     let name = name_part(given);
     let Some(row) = row_named(name) else {
-        out.write_str("htmd: unknown option\n")?;
+        out.write_str("htmd: unknown word\n")?;
         return writeln!(out, "'{given}' is not an option: see --help");
     };
-    out.write_str("htmd: unknown value\n")?;
+    out.write_str("htmd: unknown word\n")?;
     match row.setting {
         Setting::Valued(_) if given == name => {
             writeln!(out, "'{given}': write {}{}", row.name, row.value)

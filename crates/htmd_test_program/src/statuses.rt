@@ -13,8 +13,8 @@ const PARAGRAPH: Mode = Mode {
 
 #[test]
 fn answers_options(rt: HostRuntime) -> Result<(), Fail> {
-    const UNKNOWN: &str = "htmd: unknown option\n'--bogus' is not an option: see --help\n";
-    const EMPTY: &str = "htmd: unknown option\n'' is not an option: see --help\n";
+    const UNKNOWN: &str = "htmd: unknown word\n'--bogus' is not an option: see --help\n";
+    const EMPTY: &str = "htmd: unknown word\n'' is not an option: see --help\n";
     const ROWS: &[(&[&str], &[u8], &str, &str, u8)] = &[
         (&["--text"], b"a b", "a b\n", "", 0),
         (
